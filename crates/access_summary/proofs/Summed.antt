@@ -1,6 +1,9 @@
 -- What is made for one entry after the other.
-use Rattle.std.proofs.Common.{◌≡◌, ◌⊎◌, ◌↔◌, inl, inr, ⊎_elim, ℕ, Bool, true, false, nat_lt, ◌+◌, ◌<◌, ◌≤◌, List, [], ◌∷◌, ◌++◌, length, map, Option, Some, None, slice_get, Contains, refl, sym, ap, ◌∙◌, subst, arith, length-append}
-use Rattle.std.proofs.lemmas.List.Elements.{Contains-append_left, Contains-append_right, Contains-append_cases}
+use Rattle.std.proofs.Common.{◌≡◌, ◌⊎◌, ◌↔◌, inl, inr, ⊎_elim, ℕ, Bool, true, false, nat_lt, ◌+◌}
+use Rattle.std.proofs.Common.{◌<◌, ◌≤◌, List, [], ◌∷◌, ◌++◌, length, map, Option, Some, None}
+use Rattle.std.proofs.Common.{slice_get, Contains, refl, sym, ap, ◌∙◌, subst, arith, length-append}
+use Rattle.std.proofs.lemmas.List.Elements.{Contains-append_left, Contains-append_right}
+use Rattle.std.proofs.lemmas.List.Elements.{Contains-append_cases}
 use Rattle.std.proofs.lemmas.Option.{none-some, slice_get_within}
 use Rattle.std.specs.List.Sorted.{IsStrictlySortedBy}
 use Rattle.std.proofs.lemmas.Bool.{ltb-true, ltb-false}
@@ -35,14 +38,19 @@ use Rattle.access_summary.specs.Looks.{ComeWithin, SumsWithin, left_of, most_of}
 use Rattle.certificate_meaning.proofs.Alike.{summary_alike}
 
 -- the statements that are reached, as a slice of the list
-pub reached_in : (x : Exchange) (P : Facts) (e : ℕ) (places there given : List PlaceAt) → ArePlaces x (map seen places) → ((y : Exchange) → ArePlaces y (map seen places) → AreReachedAmong y P e (map seen there)) → given ≡ there → AreReachedAmong x P e (map seen given)
+pub reached_in : (x : Exchange) (P : Facts) (e : ℕ) (places there given : List PlaceAt) → ArePlaces x (map seen places)
+    → ((y : Exchange) → ArePlaces y (map seen places) → AreReachedAmong y P e (map seen there)) → given ≡ there
+    → AreReachedAmong x P e (map seen given)
 reached_in x P e places there given are told same = subst (λ l. AreReachedAmong x P e (map seen l)) (sym same) (told x are)
 
 -- a summary by what rows know of the entry is one by the least facts
 pub summary_of_least : (x : Exchange) (e : ℕ) (k : BitRows) (s : Summary) → KnowLeast x e k → IsSummary x (Knows k) e s → IsSummary x (IsLeast x) e s
-summary_of_least x e k s know is = summary_alike x (Knows k) (IsLeast x) e s (record { each = λ f own there. ((know.exact f).0 there).1 }) (record { each = λ f own least. (know.exact f).1 (own, least) }) is
+summary_of_least x e k s know is = summary_alike x (Knows k) (IsLeast x) e s
+    (record { each = λ f own there. ((know.exact f).0 there).1 })
+    (record { each = λ f own least. (know.exact f).1 (own, least) }) is
 
-pub summed_least : (x : Exchange) (e : ℕ) (k : BitRows) (most : Option ℕ) (o : Summed) → KnowLeast x e k → SumsWithin most (IsSummary x (Knows k) e) o → SumsWithin most (IsSummary x (IsLeast x) e) o
+pub summed_least : (x : Exchange) (e : ℕ) (k : BitRows) (most : Option ℕ) (o : Summed) → KnowLeast x e k
+    → SumsWithin most (IsSummary x (Knows k) e) o → SumsWithin most (IsSummary x (IsLeast x) e) o
 summed_least x e k most (summed.Whole s looks) know is = summary_of_least x e k s know is
 summed_least x e k most (summed.Over looks) know is = is
 
@@ -59,7 +67,8 @@ summaries_begin x all none = record {
   is = λ e s there. absurd (none-some s (ap (λ (l : List Summary). slice_get l e) (sym none) ∙ there));
 }
 
-pub summaries_more : (x : Exchange) (n : ℕ) (one : Summary) (all new : List Summary) → IsSummary x (IsLeast x) n one → new ≡ all ++ one ∷ [] → SummariesGo x n all → SummariesGo x (n + 1) new
+pub summaries_more : (x : Exchange) (n : ℕ) (one : Summary) (all new : List Summary) → IsSummary x (IsLeast x) n one
+    → new ≡ all ++ one ∷ [] → SummariesGo x n all → SummariesGo x (n + 1) new
 summaries_more x n one all new is grown g = record {
   long = (let l = ap length grown ∙ length-append all (one ∷ []) in let h = g.long in omega (arith, l, h));
   is = λ e s there.
@@ -68,7 +77,8 @@ summaries_more x n one all new is grown g = record {
       (get_push all one s e (ap (λ (l : List Summary). slice_get l e) (sym grown) ∙ there));
 }
 
-pub summaries_end : (x : Exchange) (n count : ℕ) (all : List Summary) → count ≡ length x.entries → n ≤ count → count ≤ n → SummariesGo x n all → AreSummaries x all
+pub summaries_end : (x : Exchange) (n count : ℕ) (all : List Summary) → count ≡ length x.entries → n ≤ count → count ≤ n
+    → SummariesGo x n all → AreSummaries x all
 summaries_end x n count all is low high g = (let h = g.long in record { each_entry = omega (arith, is, low, high, h); is = g.is })
 
 -- what a search ends with
@@ -76,16 +86,19 @@ summaries_end x n count all is low high g = (let h = g.long in record { each_ent
 pub all_found : {F : Type 0} (bound : Option ℕ) (o : Looked) (looks : ℕ) → o ≡ Whole looks → FindsWithin bound F o → F
 all_found {F = F} bound o looks is h = subst (FindsWithin bound F) is h
 
-pub passed_one : (P : Summary → Type 0) (most bound : Option ℕ) (before : ℕ) (o : Summed) (looks : ℕ) → bound ≡ most_of most before → o ≡ summed.Over looks → SumsWithin bound P o → IsOver (most_of most before) looks
+pub passed_one : (P : Summary → Type 0) (most bound : Option ℕ) (before : ℕ) (o : Summed) (looks : ℕ)
+    → bound ≡ most_of most before → o ≡ summed.Over looks → SumsWithin bound P o → IsOver (most_of most before) looks
 passed_one P most bound before o looks same is h = subst (λ b. IsOver b looks) same (subst (SumsWithin bound P) is h)
 
-pub accesses_found : (P : List Access → Type 0) (most : Option ℕ) (o : Listed) (accesses : List Access) (met : ℕ) → o ≡ listed.Whole accesses met → ListsWithin most P o → P accesses
+pub accesses_found : (P : List Access → Type 0) (most : Option ℕ) (o : Listed) (accesses : List Access) (met : ℕ)
+    → o ≡ listed.Whole accesses met → ListsWithin most P o → P accesses
 accesses_found P most o accesses met is h = subst (ListsWithin most P) is h
 
 pub summary_found : (P : Summary → Type 0) (most : Option ℕ) (o : Summed) (s : Summary) (looks : ℕ) → o ≡ summed.Whole s looks → SumsWithin most P o → P s
 summary_found P most o s looks is h = subst (SumsWithin most P) is h
 
-pub passed_two : (P : Summary → Type 0) (most left : Option ℕ) (o : Summed) (looks met : ℕ) → left ≡ left_of most looks → o ≡ summed.Over met → SumsWithin left P o → IsOver (left_of most looks) met
+pub passed_two : (P : Summary → Type 0) (most left : Option ℕ) (o : Summed) (looks met : ℕ) → left ≡ left_of most looks
+    → o ≡ summed.Over met → SumsWithin left P o → IsOver (left_of most looks) met
 passed_two P most left o looks met same is h = subst (λ b. IsOver b met) same (subst (SumsWithin left P) is h)
 
 -- where there is no bound, summaries come
@@ -125,15 +138,25 @@ below_or_last m n lt = by (nat_lt m n) refl
     by true is = inl (ltb-true m n is)
     by false is = (let le = ltb-false m n is in inr (omega (arith, le, lt)))
 
-pub facts_more : (x : Exchange) (n : ℕ) (facts more new : List Fact) → ((f : Fact) → Contains more f ↔ ((f.entry ≡ n) × IsLeast x f)) → IsStrictlySortedBy fact_order more → new ≡ facts ++ more → FactsGo x n facts → FactsGo x (n + 1) new
+pub facts_more : (x : Exchange) (n : ℕ) (facts more new : List Fact)
+    → ((f : Fact) → Contains more f ↔ ((f.entry ≡ n) × IsLeast x f)) → IsStrictlySortedBy fact_order more
+    → new ≡ facts ++ more → FactsGo x n facts → FactsGo x (n + 1) new
 facts_more x n facts more new exact up grown g = subst (FactsGo x (n + 1)) (sym grown) (record {
-  each = λ f c. ⊎_elim (λ old. let lt = (g.each f old).0 in (omega (arith, lt), (g.each f old).1)) (λ here. let is = ((exact f).0 here).0 in (omega (arith, is), ((exact f).0 here).1)) (Contains-append_cases facts more f c);
-  listed = λ f lt least. ⊎_elim (λ below. Contains-append_left facts more f (g.listed f below least)) (λ is. Contains-append_right facts more f ((exact f).1 (is, least))) (below_or_last f.entry n lt);
-  rising = sorted_append fact_order facts more g.rising up (λ u v c d. let lt = (g.each u c).0 in let is = ((exact v).0 d).0 in entry_less u v (omega (arith, lt, is)));
+  each = λ f c. ⊎_elim (λ old. let lt = (g.each f old).0 in (omega (arith, lt), (g.each f old).1))
+      (λ here. let is = ((exact f).0 here).0 in (omega (arith, is), ((exact f).0 here).1))
+      (Contains-append_cases facts more f c);
+  listed = λ f lt least. ⊎_elim (λ below. Contains-append_left facts more f (g.listed f below least))
+      (λ is. Contains-append_right facts more f ((exact f).1 (is, least))) (below_or_last f.entry n lt);
+  rising = sorted_append fact_order facts more g.rising up
+      (λ u v c d. let lt = (g.each u c).0 in let is = ((exact v).0 d).0 in entry_less u v (omega (arith, lt, is)));
 })
 
-pub facts_exact : (x : Exchange) (n count : ℕ) (facts : List Fact) → count ≡ length x.entries → count ≤ n → FactsGo x n facts → (f : Fact) → Contains facts f ↔ IsLeast x f
-facts_exact x n count facts is high g f = ((λ c. (g.each f c).1), (λ least. let lt = least_of_entry x f least in g.listed f (omega (arith, lt, is, high)) least))
+pub facts_exact : (x : Exchange) (n count : ℕ) (facts : List Fact) → count ≡ length x.entries → count ≤ n
+    → FactsGo x n facts → (f : Fact) → Contains facts f ↔ IsLeast x f
+facts_exact x n count facts is high g f = (
+  (λ c. (g.each f c).1),
+  (λ least. let lt = least_of_entry x f least in g.listed f (omega (arith, lt, is, high)) least),
+)
 
 pub facts_rising : (x : Exchange) (n : ℕ) (facts : List Fact) → FactsGo x n facts → IsStrictlySortedBy fact_order facts
 facts_rising x n facts g = g.rising

@@ -12,7 +12,8 @@ ghost use Rattle.least_facts.specs.Looks.{IsOver};
 ghost use Rattle.entry_accesses.specs.Numbered.{AreNumbers};
 ghost use Rattle.entry_summary.specs.Summaries.{IsSummary};
 ghost use Rattle.certificate_meaning.specs.Summaries.{AreSummaries};
-ghost use Rattle.access_summary.specs.Looks.{ComeWithin, IsPast, MayBePassed, SumsWithin, left_of, most_of};
+ghost use Rattle.access_summary.specs.Looks.{ComeWithin, IsPast, MayBePassed, SumsWithin, left_of};
+ghost use Rattle.access_summary.specs.Looks.{most_of};
 
 use crate::looks::{Excess, FewOrMany, PART_OF_ENTRY, Summed};
 use crate::summary::summary_within;
@@ -39,8 +40,9 @@ pub fn summaries_of(alloc: Global, exchange: &Exchange) -> Result<Summaries, Mem
     }
 }
 
-/// The same with so many looks, about, each of which takes a quarter of a microsecond: at facts, and at accesses that are met. Where more are
-/// wanted, in all or for one entry, for which there may be a sixteenth of them, it tells how many were made.
+/// The same with so many looks, about, each of which takes a quarter of a microsecond: at facts,
+/// and at accesses that are met. Where more are wanted, in all or for one entry, for which there
+/// may be a sixteenth of them, it tells how many were made.
 pub fn summaries_if_few(
     alloc: Global,
     exchange: &Exchange,
@@ -142,7 +144,8 @@ fn excess_of(most: Option<usize>, before: usize, looks: usize) -> Excess
     }
 }
 
-/// The summary of an entry by the least facts, which the analyser learns, with so many looks, if there is a bound.
+/// The summary of an entry by the least facts, which the analyser learns, with so many looks, if
+/// there is a bound.
 fn summarise(
     alloc: Global,
     exchange: &Exchange,
@@ -186,7 +189,8 @@ fn summarise(
     }
 }
 
-/// The summary of an entry of which the analyser has learned the least facts, with so many looks, if there is a bound.
+/// The summary of an entry of which the analyser has learned the least facts, with so many looks,
+/// if there is a bound.
 fn by_learned(
     alloc: Global,
     exchange: &Exchange,

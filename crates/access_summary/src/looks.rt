@@ -1,9 +1,10 @@
-// How many looks the summaries of an exchange may take, and whether they take more. A look is one at a fact, or an access that is met:
-// each takes time, and memory for what it finds.
+// How many looks the summaries of an exchange may take, and whether they take more. A look is one
+// at a fact, or an access that is met: each takes time, and memory for what it finds.
 use entry_summary::Summary;
 use kept_summaries::Summaries;
 
-/// The part of all looks that may be spent on one entry: what they find takes memory, some 100 bytes for each.
+/// The part of all looks that may be spent on one entry: what they find takes memory, some 100
+/// bytes for each.
 pub const PART_OF_ENTRY: usize = 16;
 
 /// The summary of an entry, for which there may be so many looks.
@@ -27,7 +28,8 @@ pub enum FewOrMany {
 /// The looks that are more than there may be.
 #[derive(Clone, Copy)]
 pub enum Excess {
-    /// In all: so many for the entries before one, with the time that its table takes, and so many for that one.
+    /// In all: so many for the entries before one, with the time that its table takes, and so many
+    /// for that one.
     InAll { before: usize, looks: usize },
     /// For one entry, for which there may be a sixteenth of them: so many.
     ForOne { looks: usize },

@@ -16,8 +16,8 @@ use flow_table::{FlowTable, KnownFacts, PlaceAt, reached_places};
 use plex_num::Memory;
 use std::alloc::Global;
 
-/// The summary of an entry, by facts that are known. `table`, `places` and `numbers` are those of the exchange, which are made
-/// once.
+/// The summary of an entry, by facts that are known. `table`, `places` and `numbers` are those of
+/// the exchange, which are made once.
 pub fn summary_of<K: KnownFacts>(
     alloc: Global,
     exchange: &Exchange,

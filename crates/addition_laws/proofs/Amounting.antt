@@ -1,5 +1,6 @@
 -- Words that differ by amounts, after the same stores elsewhere, and after an addition.
-use Rattle.std.proofs.Common.{◌≡◌, inl, inr, ⊎_elim, ℕ, ◌+◌, ◌%◌, ◌^◌, ◌<◌, ◌≤◌, List, [], ◌∷◌, length, sym, ap, ◌∙◌, subst, arith}
+use Rattle.std.proofs.Common.{◌≡◌, inl, inr, ⊎_elim, ℕ, ◌+◌, ◌%◌, ◌^◌, ◌<◌, ◌≤◌, List, [], ◌∷◌}
+use Rattle.std.proofs.Common.{length, sym, ap, ◌∙◌, subst, arith}
 use Rattle.std.proofs.Math.ListN.{length-set}
 use Rattle.std.proofs.lemmas.List.{get_or-set_same, get_or-set_other, get_or_past}
 use Rattle.std.proofs.lemmas.Bool.{cases_eq, cases_lt}
@@ -46,18 +47,21 @@ module _ (D : ℕ → Type 0) (more : ℕ → ℕ) where
   }
 
   -- a word of D gets a value, and in the other list so much more
-  pub differ_set : (s t : List ℕ) (cell u v : ℕ) → DiffersBy D more s t → D cell → v ≡ (u + more cell) % 2 ^ 32 → DiffersBy D more (slice_set s cell u) (slice_set t cell v)
+  pub differ_set : (s t : List ℕ) (cell u v : ℕ) → DiffersBy D more s t → D cell → v ≡ (u + more cell) % 2 ^ 32
+      → DiffersBy D more (slice_set s cell u) (slice_set t cell v)
   differ_set s t cell u v words d is = record {
     long = length-set s cell u ∙ words.long ∙ sym (length-set t cell v);
     same = λ w not.
         let other : w ≡ cell → ⊥ = λ same. not (subst D (sym same) d) in
         get_or-set_other s cell w u 0 other ∙ words.same w not ∙ sym (get_or-set_other t cell w v 0 other);
     added = λ w e. ⊎_elim (λ same. subst (λ n. slice_index (slice_set t cell v) n ≡ (slice_index (slice_set s cell u) n + more n) % 2 ^ 32) (sym same) here)
-        (λ other. get_or-set_other t cell w v 0 other ∙ words.added w e ∙ ap (λ n. (n + more w) % 2 ^ 32) (sym (get_or-set_other s cell w u 0 other))) (cases_eq w cell);
+        (λ other. get_or-set_other t cell w v 0 other ∙ words.added w e
+        ∙ ap (λ n. (n + more w) % 2 ^ 32) (sym (get_or-set_other s cell w u 0 other))) (cases_eq w cell);
   }
     where
       here : slice_index (slice_set t cell v) cell ≡ (slice_index (slice_set s cell u) cell + more cell) % 2 ^ 32
       here = ⊎_elim
-          (λ within. get_or-set_same t cell v 0 (subst (λ n. cell < n) words.long within) ∙ is ∙ ap (λ n. (n + more cell) % 2 ^ 32) (sym (get_or-set_same s cell u 0 within)))
+          (λ within. get_or-set_same t cell v 0 (subst (λ n. cell < n) words.long within) ∙ is
+          ∙ ap (λ n. (n + more cell) % 2 ^ 32) (sym (get_or-set_same s cell u 0 within)))
           (λ past. unset t cell v (subst (λ n. n ≤ cell) words.long past) ∙ words.added cell d ∙ ap (λ n. (n + more cell) % 2 ^ 32) (sym (unset s cell u past)))
           (cases_lt cell (length s))

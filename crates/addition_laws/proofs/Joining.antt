@@ -30,15 +30,18 @@ use Rattle.pair_laws.proofs.Staying.{free_after, free_before, one_same, read_sam
 use Rattle.pair_laws.proofs.Storing.{retired_store, retirement_apart}
 use Rattle.pair_laws.proofs.Touching.{no_store_append, not_stored, touched_read}
 use Rattle.additions_meaning.specs.Additions.{IsAddedWord}
-use Rattle.addition_laws.specs.Either.{AreApartBut, IsOutside, IsSameRun, SameInEitherOrder, left_by}
-use Rattle.addition_laws.specs.Together.{AreIndependentBut, MayAddAtOnce, RunTogetherAdding, SameOrdersAdding}
+use Rattle.addition_laws.specs.Either.{AreApartBut, IsOutside, IsSameRun, SameInEitherOrder}
+use Rattle.addition_laws.specs.Either.{left_by}
+use Rattle.addition_laws.specs.Together.{AreIndependentBut, MayAddAtOnce, RunTogetherAdding}
+use Rattle.addition_laws.specs.Together.{SameOrdersAdding}
 use Rattle.addition_laws.proofs.Amounting.{no_store}
 use Rattle.addition_laws.proofs.Ordering.{either_order}
 use Rattle.addition_laws.proofs.Passing.{beside, shares, stays_adding}
 use Rattle.addition_laws.proofs.Retiring.{retirement_out}
 use Rattle.addition_laws.proofs.Sparing.{held, reads_spared, stands}
 
-module _ (x : Exchange) (facts : List Fact) (s : State) (first later : Summary) (a b : JobStart) (closed : IsClosed x (Contains facts)) (h : MayAddAtOnce x facts s first later a b) where
+module _ (x : Exchange) (facts : List Fact) (s : State) (first later : Summary) (a b : JobStart)
+    (closed : IsClosed x (Contains facts)) (h : MayAddAtOnce x facts s first later a b) where
   abbrev one : Summary
   one = h.passes.one
 
@@ -97,8 +100,12 @@ module _ (x : Exchange) (facts : List Fact) (s : State) (first later : Summary) 
 
   independent : AreIndependentBut x Added s a b
   independent = record {
-    by_first = λ w not at. not_stored x first a s.chains ts w first_keeps.touches (λ writes. not ((shares x facts s first later a b h).first_writes w writes (touched_read x later b s.chains us w later_keeps.touches at)));
-    by_later = λ w not at. not_stored x later b s.chains us w later_keeps.touches (λ writes. not ((shares x facts s first later a b h).later_writes w (touched_read x first a s.chains ts w first_keeps.touches at) writes));
+    by_first = λ w not at. not_stored x first a s.chains ts w first_keeps.touches
+        (λ writes. not ((shares x facts s first later a b h).first_writes w writes
+        (touched_read x later b s.chains us w later_keeps.touches at)));
+    by_later = λ w not at. not_stored x later b s.chains us w later_keeps.touches
+        (λ writes. not ((shares x facts s first later a b h).later_writes w
+        (touched_read x first a s.chains ts w first_keeps.touches at) writes));
   }
 
   apart : AreApartBut x Added s.store a b endings
@@ -112,7 +119,8 @@ module _ (x : Exchange) (facts : List Fact) (s : State) (first later : Summary) 
   -- both orders
 
   either : SameInEitherOrder x s.store a b endings
-  either = either_order x h.exchange (Contains facts) closed h.passes.shared s.store h.state.store a b endings h.first_fits.job h.later_fits.job h.passes.first_only h.passes.later_only apart
+  either = either_order x h.exchange (Contains facts) closed h.passes.shared s.store h.state.store a b endings
+      h.first_fits.job h.later_fits.job h.passes.first_only h.passes.later_only apart
 
   again_retired : (after_job x a (with_words_of x b s)).store ≡ left_by x a endings (store_after x b s.store)
   again_retired =

@@ -17,9 +17,13 @@ use Rattle.entry_summary.specs.Orders.{level_number}
 use Rattle.entry_summary.specs.Summaries.{IsSummary}
 use Rattle.pair_tests.specs.declared.pair.Conflict.{Conflict}
 use Rattle.pair_tests.specs.declared.pair.Test.{Test}
-use Rattle.pair_tests.specs.Pairs.{IsConflict, IsTest, Passes, ShareField, ShareFile, both_seize, later_frees, first_frees, on_variable, on_field, on_file, on_level, two_values, first_value, later_value, in_forlopp, holds_none}
+use Rattle.pair_tests.specs.Pairs.{IsConflict, IsTest, Passes, ShareField, ShareFile, both_seize}
+use Rattle.pair_tests.specs.Pairs.{later_frees, first_frees, on_variable, on_field, on_file}
+use Rattle.pair_tests.specs.Pairs.{on_level, two_values, first_value, later_value, in_forlopp}
+use Rattle.pair_tests.specs.Pairs.{holds_none}
 use Rattle.pair_laws.proofs.Naming.{access_fits, plain_at}
-use Rattle.additions_meaning.specs.Additions.{AddsTo, adds, OnlyAddsTo, OnlyAddsToEach, OnlyAddsToField, Targets}
+use Rattle.additions_meaning.specs.Additions.{AddsTo, adds, OnlyAddsTo, OnlyAddsToEach}
+use Rattle.additions_meaning.specs.Additions.{OnlyAddsToField, Targets}
 use Rattle.additions_meaning.specs.Lists.{AreAdded, AreOfBoth, HaveTheSame, IsAdded, IsAddedField}
 use Rattle.addition_laws.specs.Sparing.{IsSparing, PassesAdding}
 use Rattle.addition_laws.proofs.Sparing.{stands}
@@ -30,7 +34,10 @@ same_said one other = ((λ a. other.1 (one.0 a)), (λ b. one.1 (other.0 b)))
 
 module _ (x : Exchange) (P : Facts) (entry : ℕ) where
   pub same_lists : (d e : Targets) → AreAdded x P entry d → AreAdded x P entry e → HaveTheSame d e
-  same_lists d e one other = record { variables = λ n. same_said (one.variables n) (other.variables n); fields = λ n. same_said (one.fields n) (other.fields n) }
+  same_lists d e one other = record {
+    variables = λ n. same_said (one.variables n) (other.variables n);
+    fields = λ n. same_said (one.fields n) (other.fields n);
+  }
 
   -- an addition writes its variable
   adding_writes : (b p n : ℕ) (l : Layer) → AddsTo x b n l → Accesses x P entry b p l (Variable true n)
@@ -39,25 +46,40 @@ module _ (x : Exchange) (P : Facts) (entry : ℕ) where
   -- what is accessed and only added to
   pub variable_listed : (n : ℕ) (write : Bool) → OnlyAddsTo x P entry n → IsAccess x P entry (Variable write n) → IsAdded x P entry n
   variable_listed n write only h = record {
-    written = record { at = h.at; point = h.point; stands = h.stands; reached = h.reached; access = adding_writes h.at.block h.point n h.at.layer (only h.at h.point h.stands h.reached write h.access) };
+    written = record {
+      at = h.at;
+      point = h.point;
+      stands = h.stands;
+      reached = h.reached;
+      access = adding_writes h.at.block h.point n h.at.layer (only h.at h.point h.stands h.reached write h.access);
+    };
     only = only;
   }
 
-  pub field_listed : (n : ℕ) (write : Bool) (selector : Value) → OnlyAddsToField x P entry n → IsAccess x P entry (Field write n selector) → IsAddedField x P entry n
+  pub field_listed : (n : ℕ) (write : Bool) (selector : Value) → OnlyAddsToField x P entry n
+      → IsAccess x P entry (Field write n selector) → IsAddedField x P entry n
   field_listed n write selector only h = record { write = write; selector = selector; accessed = h; only = only.adds }
 
   -- lists within those of the entry
-  pub only_each : IsExchange x → (d shared : Targets) → AreAdded x P entry d → ((n : ℕ) → Contains shared.variables n → Contains d.variables n) → ((n : ℕ) → Contains shared.fields n → Contains d.fields n) → OnlyAddsToEach x P entry shared
+  pub only_each : IsExchange x → (d shared : Targets) → AreAdded x P entry d
+      → ((n : ℕ) → Contains shared.variables n → Contains d.variables n)
+      → ((n : ℕ) → Contains shared.fields n → Contains d.fields n) → OnlyAddsToEach x P entry shared
   only_each kept d shared are variables fields = record {
     variables = λ n there. ((are.variables n).0 (variables n there)).only;
     fields = λ n there. of_field n ((are.fields n).0 (fields n there));
   }
     where
       of_field : (n : ℕ) → IsAddedField x P entry n → OnlyAddsToField x P entry n
-      of_field n h = record { plain = λ file field at. plain_at x n file field (access_fits x kept P entry (Field h.write n h.selector) h.accessed) at; adds = h.only }
+      of_field n h = record {
+        plain = λ file field at. plain_at x n file field
+            (access_fits x kept P entry (Field h.write n h.selector) h.accessed) at;
+        adds = h.only;
+      }
 
-module _ (x : Exchange) (kept : IsExchange x) (P : Facts) (first later one other : Summary) (a b : JobStart) (d e shared : Targets) (first_told : IsSummary x P a.job.entry first) (later_told : IsSummary x P b.job.entry later)
-    (first_adds : AreAdded x P a.job.entry d) (later_adds : AreAdded x P b.job.entry e) (both : AreOfBoth d e shared) (of_first : IsSparing shared first one) (of_later : IsSparing shared later other) where
+module _ (x : Exchange) (kept : IsExchange x) (P : Facts) (first later one other : Summary) (a b : JobStart)
+    (d e shared : Targets) (first_told : IsSummary x P a.job.entry first) (later_told : IsSummary x P b.job.entry later)
+    (first_adds : AreAdded x P a.job.entry d) (later_adds : AreAdded x P b.job.entry e) (both : AreOfBoth d e shared)
+    (of_first : IsSparing shared first one) (of_later : IsSparing shared later other) where
   passes_adding : Passes one other a b → PassesAdding x P first later a b
   passes_adding passes = record {
     shared = shared;
@@ -82,7 +104,8 @@ module _ (x : Exchange) (kept : IsExchange x) (P : Facts) (first later one other
           (later_adds.variables n).1 (variable_listed x P b.job.entry n v (p.later_only.variables n listed) ((later_told.accesses (Variable v n)).0 also.0)),
         ))
 
-    field_kept : (n : ℕ) (u v : Bool) (i j : Value) → Contains one.accesses (Field u n i) → Contains other.accesses (Field v n j) → Contains p.shared.fields n → ⊥
+    field_kept : (n : ℕ) (u v : Bool) (i j : Value) → Contains one.accesses (Field u n i)
+        → Contains other.accesses (Field v n j) → Contains p.shared.fields n → ⊥
     field_kept n u v i j there again listed =
         let here = (of_first.accesses (Field u n i)).0 there in
         let also = (of_later.accesses (Field v n j)).0 again in
@@ -95,8 +118,12 @@ module _ (x : Exchange) (kept : IsExchange x) (P : Facts) (first later one other
     share_field n i j h = record {
       first_writes = h.first_writes;
       later_writes = h.later_writes;
-      by_first = stands x p.shared first p.one p.of_first (Field h.first_writes n i) ((of_first.accesses (Field h.first_writes n i)).0 h.by_first).0 (field_kept n h.first_writes h.later_writes i j h.by_first h.by_later);
-      by_later = stands x p.shared later p.other p.of_later (Field h.later_writes n j) ((of_later.accesses (Field h.later_writes n j)).0 h.by_later).0 (field_kept n h.first_writes h.later_writes i j h.by_first h.by_later);
+      by_first = stands x p.shared first p.one p.of_first (Field h.first_writes n i)
+          ((of_first.accesses (Field h.first_writes n i)).0 h.by_first).0
+          (field_kept n h.first_writes h.later_writes i j h.by_first h.by_later);
+      by_later = stands x p.shared later p.other p.of_later (Field h.later_writes n j)
+          ((of_later.accesses (Field h.later_writes n j)).0 h.by_later).0
+          (field_kept n h.first_writes h.later_writes i j h.by_first h.by_later);
       one_writes = h.one_writes;
     }
 
@@ -124,8 +151,12 @@ module _ (x : Exchange) (kept : IsExchange x) (P : Facts) (first later one other
     conflict_so c (on_variable n h) = on_variable n (record {
       first_writes = h.first_writes;
       later_writes = h.later_writes;
-      by_first = stands x p.shared first p.one p.of_first (Variable h.first_writes n) ((of_first.accesses (Variable h.first_writes n)).0 h.by_first).0 (variable_kept n h.first_writes h.later_writes h.by_first h.by_later);
-      by_later = stands x p.shared later p.other p.of_later (Variable h.later_writes n) ((of_later.accesses (Variable h.later_writes n)).0 h.by_later).0 (variable_kept n h.first_writes h.later_writes h.by_first h.by_later);
+      by_first = stands x p.shared first p.one p.of_first (Variable h.first_writes n)
+          ((of_first.accesses (Variable h.first_writes n)).0 h.by_first).0
+          (variable_kept n h.first_writes h.later_writes h.by_first h.by_later);
+      by_later = stands x p.shared later p.other p.of_later (Variable h.later_writes n)
+          ((of_later.accesses (Variable h.later_writes n)).0 h.by_later).0
+          (variable_kept n h.first_writes h.later_writes h.by_first h.by_later);
       one_writes = h.one_writes;
     })
     conflict_so c (on_field n u v h meet) = on_field n u v (share_field n u v h) meet

@@ -1,5 +1,6 @@
 -- Words that are those of one list at added words, and those of another one elsewhere.
-use Rattle.std.proofs.Common.{◌≡◌, ◌⊎◌, inl, inr, ⊎_elim, ℕ, zero, suc, ◌<◌, ◌^◌, Bool, true, false, List, [], ◌∷◌, length, refl, sym, ap, ◌∙◌, subst, arith}
+use Rattle.std.proofs.Common.{◌≡◌, ◌⊎◌, inl, inr, ⊎_elim, ℕ, zero, suc, ◌<◌, ◌^◌, Bool, true, false}
+use Rattle.std.proofs.Common.{List, [], ◌∷◌, length, refl, sym, ap, ◌∙◌, subst, arith}
 use Rattle.std.proofs.lemmas.Bool.{cases_lt}
 use Rattle.std.specs.Prelude.{slice_index, if◌then◌else◌}
 use Rattle.plex_num.proofs.Lists.{some_at}
@@ -31,7 +32,8 @@ same_choice : (b : Bool) (n : ℕ) → n ≡ (if b then n else n)
 same_choice true n = refl
 same_choice false n = refl
 
-pub mixed_at : (p : ℕ → Bool) (us vs : List ℕ) (n : ℕ) → length us ≡ length vs → slice_index (mixed p us vs) n ≡ (if p n then slice_index us n else slice_index vs n)
+pub mixed_at : (p : ℕ → Bool) (us vs : List ℕ) (n : ℕ) → length us ≡ length vs
+    → slice_index (mixed p us vs) n ≡ (if p n then slice_index us n else slice_index vs n)
 unfolding mixed
 mixed_at p [] [] n long = same_choice (p n) 0
 mixed_at p [] (v ∷ vs) n long = absurd (omega (arith, long))
@@ -40,7 +42,8 @@ mixed_at p (u ∷ us) (v ∷ vs) zero long = refl
 mixed_at p (u ∷ us) (v ∷ vs) (suc n) long = mixed_at (λ n. p (suc n)) us vs n (let h = long in omega (arith, h))
 
 -- what holds of the words of both lists
-pub mixed_keeps : (P : ℕ → Type 0) (p : ℕ → Bool) (us vs : List ℕ) (n : ℕ) → length us ≡ length vs → P (slice_index us n) → P (slice_index vs n) → P (slice_index (mixed p us vs) n)
+pub mixed_keeps : (P : ℕ → Type 0) (p : ℕ → Bool) (us vs : List ℕ) (n : ℕ) → length us ≡ length vs
+    → P (slice_index us n) → P (slice_index vs n) → P (slice_index (mixed p us vs) n)
 mixed_keeps P p us vs n long first other = subst P (sym (mixed_at p us vs n long)) (by (p n))
   where
     by : (b : Bool) → P (if b then slice_index us n else slice_index vs n)
@@ -94,8 +97,10 @@ module _ (x : Exchange) (kept : IsExchange x) (d : Targets) where
       let long : length us ≡ length vs = first.whole ∙ sym other.whole in
       record {
         whole = length-mixed p us vs ∙ first.whole;
-        variables = λ b v k e there own. mixed_keeps (λ n. n < 2 ^ e.width) p us vs _ long (first.variables b v k e there own) (other.variables b v k e there own);
-        fields = λ file number field q e at own. mixed_keeps (λ n. n < 2 ^ e.width) p us vs _ long (first.fields file number field q e at own) (other.fields file number field q e at own);
+        variables = λ b v k e there own. mixed_keeps (λ n. n < 2 ^ e.width) p us vs _ long
+            (first.variables b v k e there own) (other.variables b v k e there own);
+        fields = λ file number field q e at own. mixed_keeps (λ n. n < 2 ^ e.width) p us vs _ long
+            (first.fields file number field q e at own) (other.fields file number field q e at own);
       }
 
   -- an added word is below 2^32
@@ -105,11 +110,15 @@ module _ (x : Exchange) (kept : IsExchange x) (d : Targets) where
       let h = o.gives in
       let e = some_at h.owner.variables h.index h.within in
       subst (λ n. slice_index store n < 2 ^ 32) (sym h.is)
-      (width_word (slice_index store (variable_cell x.blocks h.block h.index)) e.0 (variable_kept x kept h.block h.index h.owner e.0 h.there e.1) (fits.variables h.block h.index h.owner e.0 h.there e.1))
+      (width_word (slice_index store (variable_cell x.blocks h.block h.index)) e.0
+      (variable_kept x kept h.block h.index h.owner e.0 h.there e.1)
+      (fits.variables h.block h.index h.owner e.0 h.there e.1))
   added_small store w fits (inr o) =
       let h = o.gives in
       let r = h.of_record in
       let p = h.at.placed in
       let e = some_at p.file.fields h.field h.at.within in
       subst (λ n. slice_index store n < 2 ^ 32) (sym r.is)
-      (width_word (slice_index store (field_cell p r.number h.field)) e.0 (field_kept x kept h.file h.field p e.0 h.at.there e.1) (fits.fields h.file r.number h.field p e.0 (record { there = h.at.there; within = r.below }) e.1))
+      (width_word (slice_index store (field_cell p r.number h.field)) e.0
+      (field_kept x kept h.file h.field p e.0 h.at.there e.1)
+      (fits.fields h.file r.number h.field p e.0 (record { there = h.at.there; within = r.below }) e.1))

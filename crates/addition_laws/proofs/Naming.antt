@@ -1,5 +1,6 @@
 -- What an expression gives over other words that are the same wherever it names one.
-use Rattle.std.proofs.Common.{◌≡◌, ℕ, ◌+◌, List, [], ◌∷◌, map, Option, Some, None, refl, sym, ap, ◌∙◌, subst, slice_get}
+use Rattle.std.proofs.Common.{◌≡◌, ℕ, ◌+◌, List, [], ◌∷◌, map, Option, Some, None, refl, sym, ap}
+use Rattle.std.proofs.Common.{◌∙◌, subst, slice_get}
 use Rattle.std.specs.Prelude.{slice_index}
 use Rattle.std.specs.List.{AllByRecursion}
 use Rattle.plex_num.proofs.Lists.{all_left, all_right}
@@ -11,10 +12,18 @@ use Rattle.exchange_model.specs.declared.expr.Joined.{Joined}
 use Rattle.exchange_model.specs.declared.expr.Factor.{Factor}
 use Rattle.exchange_model.specs.Cells.{Placed, field_cell}
 use Rattle.exchange_model.specs.Inside.{joined as all_of}
-use Rattle.source_meaning.specs.Named.{Named, NamedVariable, NamedField, named_in, named_in_term, named_in_factor, named_in_joined}
-use Rattle.source_meaning.specs.Value.{Got, Gives, Fails, Eval, Sight, after_loads, with_value, joined, summed, sum_value, product_value, summand_of, multiplier_of, field_value, load_or_fault, pointer_fault, cell_value, expr_value, term_value, factor_value}
-use Rattle.source_meaning.proofs.Layers.{expr_value-out, term_value-out, factor_value-Number, factor_value-Variable, factor_value-Temporary, factor_value-Field, factor_value-Bracket, factor_value-Reference}
-use Rattle.source_meaning.proofs.Naming.{named_in-out, named_in_term-out, named-Variable, named-Field, named-Bracket}
+use Rattle.source_meaning.specs.Named.{Named, NamedVariable, NamedField, named_in, named_in_term}
+use Rattle.source_meaning.specs.Named.{named_in_factor, named_in_joined}
+use Rattle.source_meaning.specs.Value.{Got, Gives, Fails, Eval, Sight, after_loads, with_value}
+use Rattle.source_meaning.specs.Value.{joined, summed, sum_value, product_value, summand_of}
+use Rattle.source_meaning.specs.Value.{multiplier_of, field_value, load_or_fault, pointer_fault}
+use Rattle.source_meaning.specs.Value.{cell_value, expr_value, term_value, factor_value}
+use Rattle.source_meaning.proofs.Layers.{expr_value-out, term_value-out, factor_value-Number}
+use Rattle.source_meaning.proofs.Layers.{factor_value-Variable, factor_value-Temporary}
+use Rattle.source_meaning.proofs.Layers.{factor_value-Field, factor_value-Bracket}
+use Rattle.source_meaning.proofs.Layers.{factor_value-Reference}
+use Rattle.source_meaning.proofs.Naming.{named_in-out, named_in_term-out, named-Variable}
+use Rattle.source_meaning.proofs.Naming.{named-Field, named-Bracket}
 use Rattle.source_meaning.proofs.Parts.{NodeParts, every_term}
 use Rattle.source_meaning.proofs.Reading.{over}
 
@@ -42,15 +51,19 @@ module _ (t : List ℕ) (s : Sight) where
   same_with (Gives loads v) got' go go' first more = ap (λ g. with_value g go') first ∙ ap (after_loads loads) (more v)
   same_with (Fails loads f) got' go go' first more = ap (λ g. with_value g go') first
 
-  sum_same : (ts : List Term) (sum : ℕ) → AllByRecursion TermSame ts → SameOf (all_of (map named_in_term ts)) → sum_value (map summand_of ts) sum (over t s) ≡ sum_value (map summand_of ts) sum s
+  sum_same : (ts : List Term) (sum : ℕ) → AllByRecursion TermSame ts → SameOf (all_of (map named_in_term ts))
+      → sum_value (map summand_of ts) sum (over t s) ≡ sum_value (map summand_of ts) sum s
   sum_same [] sum each at = refl
   sum_same (e ∷ ts) sum each at =
       let here = all_left SameAt (named_in_term e) (all_of (map named_in_term ts)) at in
       let later = all_right SameAt (named_in_term e) (all_of (map named_in_term ts)) at in
       let rest = λ (z : Sight) (v : ℕ). sum_value (map summand_of ts) (summed (out-Term e).minus sum v) z in
-      same_with (term_value e s) (term_value e (over t s)) (rest s) (rest (over t s)) (each.0 here) (λ v. sum_same ts (summed (out-Term e).minus sum v) each.1 later)
+      same_with (term_value e s) (term_value e (over t s)) (rest s) (rest (over t s)) (each.0 here)
+      (λ v. sum_same ts (summed (out-Term e).minus sum v) each.1 later)
 
-  product_same : (js : List Joined) (product : ℕ) → AllByRecursion (λ (j : Joined). FactorSame j.factor) js → SameOf (all_of (map named_in_joined js)) → product_value (map multiplier_of js) product (over t s) ≡ product_value (map multiplier_of js) product s
+  product_same : (js : List Joined) (product : ℕ) → AllByRecursion (λ (j : Joined). FactorSame j.factor) js
+      → SameOf (all_of (map named_in_joined js))
+      → product_value (map multiplier_of js) product (over t s) ≡ product_value (map multiplier_of js) product s
   product_same [] product each at = refl
   product_same (j ∷ js) product each at =
       let here = all_left SameAt (named_in_factor j.factor) (all_of (map named_in_joined js)) at in
@@ -63,12 +76,16 @@ module _ (t : List ℕ) (s : Sight) where
   cell_same : (cell : ℕ) → slice_index t cell ≡ slice_index s.store cell → cell_value cell (over t s) ≡ cell_value cell s
   cell_same cell at = ap (λ v. Gives (Load cell v ∷ []) v) at
 
-  field_same : (found : Option Placed) (file field number : ℕ) → ((p : Placed) → found ≡ Some p → pointer_fault s.chain file p number ≡ None → slice_index t (field_cell p number field) ≡ slice_index s.store (field_cell p number field))
+  field_same : (found : Option Placed) (file field number : ℕ)
+      → ((p : Placed) → found ≡ Some p → pointer_fault s.chain file p number ≡ None
+      → slice_index t (field_cell p number field) ≡ slice_index s.store (field_cell p number field))
       → field_value found file field number (over t s) ≡ field_value found file field number s
   field_same None file field number at = refl
   field_same (Some p) file field number at = by (pointer_fault s.chain file p number) refl
     where
-      by : (found : Option Fault) → pointer_fault s.chain file p number ≡ found → load_or_fault found (field_cell p number field) (over t s) ≡ load_or_fault found (field_cell p number field) s
+      by : (found : Option Fault) → pointer_fault s.chain file p number ≡ found
+          → load_or_fault found (field_cell p number field) (over t s)
+          ≡ load_or_fault found (field_cell p number field) s
       by None sound = cell_same (field_cell p number field) (at p refl sound)
       by (Some f) sound = refl
 
@@ -77,13 +94,16 @@ module _ (t : List ℕ) (s : Sight) where
 
   node_parts : NodeParts ExprSame TermSame FactorSame
   node_parts = record {
-    expr = λ e each at. same_by (expr_value e) (sum_value (map summand_of (out-Expr e).terms) 0) (expr_value-out e) (sum_same (out-Expr e).terms 0 each (subst SameOf (named_in-out e) at));
-    term = λ e each at. same_by (term_value e) (product_value (map multiplier_of (out-Term e).factors) 1) (term_value-out e) (product_same (out-Term e).factors 1 each (subst SameOf (named_in_term-out e) at));
+    expr = λ e each at. same_by (expr_value e) (sum_value (map summand_of (out-Expr e).terms) 0) (expr_value-out e)
+        (sum_same (out-Expr e).terms 0 each (subst SameOf (named_in-out e) at));
+    term = λ e each at. same_by (term_value e) (product_value (map multiplier_of (out-Term e).factors) 1)
+        (term_value-out e) (product_same (out-Term e).factors 1 each (subst SameOf (named_in_term-out e) at));
     number = λ n at. factor_value-Number n (over t s) ∙ sym (factor_value-Number n s);
     variable = λ v at. factor_value-Variable v (over t s) ∙ cell_same (s.first + v) (subst SameOf (named-Variable v) at).0 ∙ sym (factor_value-Variable v s);
     temporary = λ n at. factor_value-Temporary n (over t s) ∙ sym (factor_value-Temporary n s);
     field = λ file field pointer at. factor_value-Field file field pointer (over t s)
-        ∙ field_same (slice_get s.files file) file field (slice_index s.temps pointer) (subst SameOf (named-Field file field pointer) at).0 ∙ sym (factor_value-Field file field pointer s);
+        ∙ field_same (slice_get s.files file) file field (slice_index s.temps pointer)
+        (subst SameOf (named-Field file field pointer) at).0 ∙ sym (factor_value-Field file field pointer s);
     bracket = λ e inside at. factor_value-Bracket e (over t s) ∙ inside (subst SameOf (named-Bracket e) at) ∙ sym (factor_value-Bracket e s);
     reference = λ b at. factor_value-Reference b (over t s) ∙ sym (factor_value-Reference b s);
   }

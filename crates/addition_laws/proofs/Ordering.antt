@@ -1,5 +1,6 @@
 -- Two jobs that touch no words of one another but those to which both only add, in either order.
-use Rattle.std.proofs.Common.{◌≡◌, ◌⊎◌, inl, inr, ⊎_elim, ℕ, ◌+◌, ◌-◌, ◌%◌, ◌^◌, ◌<◌, List, [], ◌∷◌, ◌++◌, length, sym, ap, ◌∙◌, arith}
+use Rattle.std.proofs.Common.{◌≡◌, ◌⊎◌, inl, inr, ⊎_elim, ℕ, ◌+◌, ◌-◌, ◌%◌, ◌^◌, ◌<◌, List, [], ◌∷◌}
+use Rattle.std.proofs.Common.{◌++◌, length, sym, ap, ◌∙◌, arith}
 use Rattle.std.proofs.Math.Nat.{add-mod-mod, add-mod_right, mod-eq_of_lt}
 use Rattle.std.proofs.lemmas.Bool.{cases_eq}
 use Rattle.std.proofs.lemmas.Grind.{same_number_lists}
@@ -13,7 +14,8 @@ use Rattle.exchange_model.specs.declared.exchange.Exchange.{Exchange}
 use Rattle.exchange_model.specs.Kept.{IsExchange}
 use Rattle.source_meaning.specs.Config.{Config}
 use Rattle.source_meaning.specs.Job.{job}
-use Rattle.source_meaning.specs.Traces.{IsTouched, AgreeOn, touched_word, with_store, trace_of, store_after}
+use Rattle.source_meaning.specs.Traces.{IsTouched, AgreeOn, touched_word, with_store, trace_of}
+use Rattle.source_meaning.specs.Traces.{store_after}
 use Rattle.source_meaning.specs.Valid.{IsJob, StoreFits}
 use Rattle.source_meaning.proofs.Agreeing.{job_agrees, job_length, stored_alike}
 use Rattle.source_meaning.proofs.Growing.{job_store}
@@ -21,10 +23,12 @@ use Rattle.source_meaning.proofs.Ranged.{job_in_range}
 use Rattle.flow_points.specs.Facts.{Facts, IsClosed}
 use Rattle.additions_meaning.specs.Additions.{OnlyAddsToEach, IsAddedWord, Targets}
 use Rattle.additions_meaning.specs.Amounts.{DiffersBy, RunsAlike, with_world}
-use Rattle.addition_laws.specs.Either.{LeavesAloneBut, AreApartBut, IsSameRun, SameInEitherOrder, left_by}
+use Rattle.addition_laws.specs.Either.{LeavesAloneBut, AreApartBut, IsSameRun, SameInEitherOrder}
+use Rattle.addition_laws.specs.Either.{left_by}
 use Rattle.addition_laws.proofs.Amounting.{no_store}
 use Rattle.addition_laws.proofs.Going.{job_alike}
-use Rattle.addition_laws.proofs.Mixing.{mixed, length-mixed, mixed_at, mixed_fits, added_small, is_word_added, test, test_added, test_other}
+use Rattle.addition_laws.proofs.Mixing.{mixed, length-mixed, mixed_at, mixed_fits, added_small}
+use Rattle.addition_laws.proofs.Mixing.{is_word_added, test, test_added, test_other}
 
 -- a list touches a word, or it does not
 is_touched : (ts : List Touch) (w : ℕ) → IsTouched ts w ⊎ (IsTouched ts w → ⊥)
@@ -61,13 +65,17 @@ module _ (x : Exchange) (kept : IsExchange x) (P : Facts) (closed : IsClosed x P
   record ComesAfter (ws : List Touch) (now : List ℕ) (b : JobStart) : Type 0 where
     run : IsSameRun (job x b s) (job x b now)
     others : (w : ℕ) → (Added w → ⊥) → slice_index (store_after x b now) w ≡ slice_index (stored (stored s ws) (trace_of x b s)) w
-    added : (w : ℕ) → Added w → slice_index (store_after x b now) w ≡ (slice_index (store_after x b s) w + (slice_index now w + 2 ^ 32 - slice_index s w) % 2 ^ 32) % 2 ^ 32
+    added : (w : ℕ) → Added w → slice_index (store_after x b now) w
+        ≡ (slice_index (store_after x b s) w + (slice_index now w + 2 ^ 32 - slice_index s w) % 2 ^ 32) % 2 ^ 32
 
-  comes_after : (ws : List Touch) (now : List ℕ) (b : JobStart) → now ≡ stored s ws → StoreFits x now → IsJob x b.job → OnlyAddsToEach x P b.job.entry d → LeavesAloneBut Added ws (trace_of x b s) → ComesAfter ws now b
+  comes_after : (ws : List Touch) (now : List ℕ) (b : JobStart) → now ≡ stored s ws → StoreFits x now → IsJob x b.job
+      → OnlyAddsToEach x P b.job.entry d → LeavesAloneBut Added ws (trace_of x b s) → ComesAfter ws now b
   comes_after ws now b is now_fits is_job only alone = record {
     run = alike.same ∙ ap (with_world (job x b now).world) same;
     others = λ w not. sym (alike.words.same w not) ∙ after w ∙ stored_alike us m now w long_now (at_other w not) ∙ ap (λ l. slice_index (stored l us) w) is;
-    added = λ w added. alike.words.added w added ∙ ap (λ n. (n + more w) % 2 ^ 32) (after w ∙ stored_alike us m s w long_was (at_added w added) ∙ sym (ap (λ l. slice_index l w) (job_store x b s)));
+    added = λ w added. alike.words.added w added
+        ∙ ap (λ n. (n + more w) % 2 ^ 32) (after w ∙ stored_alike us m s w long_was (at_added w added)
+        ∙ sym (ap (λ l. slice_index l w) (job_store x b s)));
   }
     where
       us : List Touch
@@ -112,7 +120,8 @@ module _ (x : Exchange) (kept : IsExchange x) (P : Facts) (closed : IsClosed x P
       differs = record {
         long = long_now;
         same = at_other;
-        added = λ w added. more_than (2 ^ 32) (slice_index now w) (slice_index s w) (added_small x kept d now w now_fits added) (added_small x kept d s w fits added)
+        added = λ w added. more_than (2 ^ 32) (slice_index now w) (slice_index s w)
+            (added_small x kept d now w now_fits added) (added_small x kept d s w fits added)
             ∙ ap (λ n. (n + more w) % 2 ^ 32) (sym (at_added w added));
       }
 
@@ -120,7 +129,8 @@ module _ (x : Exchange) (kept : IsExchange x) (P : Facts) (closed : IsClosed x P
       alike = job_alike x kept P closed b is_job m (mixed_fits x kept d (test x kept d) s now fits now_fits) d only more now differs
 
   -- stores of two lists at a word that the first does not store to if the second touches it
-  either_stores : (ts us : List Touch) (w : ℕ) → (IsTouched us w → NoStore w ts) → slice_index (stored (stored s ts) us) w ≡ slice_index (stored (stored s us) ts) w
+  either_stores : (ts us : List Touch) (w : ℕ) → (IsTouched us w → NoStore w ts)
+      → slice_index (stored (stored s ts) us) w ≡ slice_index (stored (stored s us) ts) w
   either_stores ts us w alone = ⊎_elim
       (λ at.
       let none = alone at in
@@ -130,7 +140,9 @@ module _ (x : Exchange) (kept : IsExchange x) (P : Facts) (closed : IsClosed x P
       stored-kept us (stored s ts) w none ∙ sym (stored_alike ts (stored s us) s w (length-stored us s) (stored-kept us s w none)))
       (is_touched us w)
 
-  pub either_order : (a b : JobStart) (ending : List Touch) → IsJob x a.job → IsJob x b.job → OnlyAddsToEach x P a.job.entry d → OnlyAddsToEach x P b.job.entry d → AreApartBut x Added s a b ending → SameInEitherOrder x s a b ending
+  pub either_order : (a b : JobStart) (ending : List Touch) → IsJob x a.job → IsJob x b.job
+      → OnlyAddsToEach x P a.job.entry d → OnlyAddsToEach x P b.job.entry d → AreApartBut x Added s a b ending
+      → SameInEitherOrder x s a b ending
   either_order a b ending first_job later_job first_only later_only apart = record {
     later = later.run;
     first = first.run;
@@ -162,7 +174,8 @@ module _ (x : Exchange) (kept : IsExchange x) (P : Facts) (closed : IsClosed x P
       first = comes_after us (store_after x b s) a (job_store x b s) (store_fits b later_job) first_job first_only apart.later
 
       long : length (store_after x b left) ≡ length (stored again ending)
-      long = job_length x b left ∙ length-stored ending (store_after x a s) ∙ job_length x a s ∙ sym (length-stored ending again ∙ job_length x a (store_after x b s) ∙ job_length x b s)
+      long = job_length x b left ∙ length-stored ending (store_after x a s) ∙ job_length x a s
+          ∙ sym (length-stored ending again ∙ job_length x a (store_after x b s) ∙ job_length x b s)
 
       at_added : (w : ℕ) → Added w → slice_index (store_after x b left) w ≡ slice_index (stored again ending) w
       at_added w added =
@@ -170,10 +183,12 @@ module _ (x : Exchange) (kept : IsExchange x) (P : Facts) (closed : IsClosed x P
           let was = slice_index s w in
           let other = slice_index (store_after x b s) w in
           later.added w added ∙ ap (λ n. (other + (n + 2 ^ 32 - was) % 2 ^ 32) % 2 ^ 32) (stored-kept ending (store_after x a s) w none)
-          ∙ same_sums (2 ^ 32) was other (slice_index (store_after x a s) w) (added_small x kept d s w fits added) ∙ sym (first.added w added) ∙ sym (stored-kept ending again w none)
+          ∙ same_sums (2 ^ 32) was other (slice_index (store_after x a s) w) (added_small x kept d s w fits added)
+          ∙ sym (first.added w added) ∙ sym (stored-kept ending again w none)
 
       at_other : (w : ℕ) → (Added w → ⊥) → slice_index (store_after x b left) w ≡ slice_index (stored again ending) w
       at_other w not =
-          let same : length again ≡ length (stored (stored s us) ts) = job_length x a (store_after x b s) ∙ job_length x b s ∙ sym (length-stored ts (stored s us) ∙ length-stored us s) in
+          let same : length again ≡ length (stored (stored s us) ts) = job_length x a (store_after x b s)
+          ∙ job_length x b s ∙ sym (length-stored ts (stored s us) ∙ length-stored us s) in
           later.others w not ∙ either_stores ws us w (apart.first w not) ∙ ap (λ l. slice_index l w) (stored-append ts ending (stored s us))
           ∙ sym (stored_alike ending again (stored (stored s us) ts) w same (first.others w not))

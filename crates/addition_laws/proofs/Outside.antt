@@ -1,5 +1,6 @@
 -- A statement that accesses no listed variable or field touches no word of one.
-use Rattle.std.proofs.Common.{◌≡◌, ℕ, ◌+◌, ◌<◌, Bool, true, false, List, [], ◌∷◌, length, Some, refl, sym, subst, slice_get}
+use Rattle.std.proofs.Common.{◌≡◌, ℕ, ◌+◌, ◌<◌, Bool, true, false, List, [], ◌∷◌, length, Some}
+use Rattle.std.proofs.Common.{refl, sym, subst, slice_get}
 use Rattle.std.proofs.lemmas.Option.{slice_get_within}
 use Rattle.std.specs.List.{AllByRecursion, Contains}
 use Rattle.std.specs.Prelude.{slice_index}
@@ -14,13 +15,17 @@ use Rattle.exchange_model.specs.Cells.{Placed, field_cell, mark_cell}
 use Rattle.exchange_model.specs.Kept.{IsExchange, scope_of}
 use Rattle.source_meaning.specs.Named.{Layer, NamedVariable, NamedField, named_in}
 use Rattle.source_meaning.specs.Config.{Item, Config, base_of}
-use Rattle.source_meaning.specs.Deeds.{Deed, Doing, Starting, Turning, IsExprOf, IsFileAt, LooksAt, MayUse, at_variable, at_field, at_holder, at_searched, at_mark, IsLook}
-use Rattle.source_meaning.specs.Effects.{Effect, Looks, PutsVariable, PutsField, Seizes, Frees, Goes, Posts, Leave, Faults, Effects, Done, Then, Last}
+use Rattle.source_meaning.specs.Deeds.{Deed, Doing, Starting, Turning, IsExprOf, IsFileAt, LooksAt}
+use Rattle.source_meaning.specs.Deeds.{MayUse, at_variable, at_field, at_holder, at_searched}
+use Rattle.source_meaning.specs.Deeds.{at_mark, IsLook}
+use Rattle.source_meaning.specs.Effects.{Effect, Looks, PutsVariable, PutsField, Seizes, Frees}
+use Rattle.source_meaning.specs.Effects.{Goes, Posts, Leave, Faults, Effects, Done, Then, Last}
 use Rattle.source_meaning.specs.Rests.{DeedStands}
 use Rattle.source_meaning.proofs.Fitting.{deed_fits_in, NamedFits, names_fit}
 use Rattle.source_meaning.proofs.Keeping.{effect_block}
 use Rattle.source_meaning.proofs.Lists.{all_contained}
-use Rattle.source_meaning.proofs.Touching.{pointer_within, field_of, forlopp_of, deed_expr, holder_variable, record_all}
+use Rattle.source_meaning.proofs.Touching.{pointer_within, field_of, forlopp_of, deed_expr}
+use Rattle.source_meaning.proofs.Touching.{holder_variable, record_all}
 use Rattle.flow_points.specs.declared.fact.Slot.TheVariants.{Temp}
 use Rattle.flow_points.specs.declared.fact.Value.{Value}
 use Rattle.flow_points.specs.declared.fact.Value.TheVariants.{Any}
@@ -53,12 +58,16 @@ module _ (x : Exchange) (d : Targets) where
 
   module _ (plain : AllPlain x d.fields) where
     -- the file of an added field is a plain one
-    pub added_plain : (file number field : ℕ) (p : Placed) → IsFileAt x file p → number < p.file.size → field < length p.file.fields → IsAddedWord x d (field_cell p number field) → IsPlain x file
+    pub added_plain : (file number field : ℕ) (p : Placed) → IsFileAt x file p → number < p.file.size
+        → field < length p.file.fields → IsAddedWord x d (field_cell p number field) → IsPlain x file
     added_plain file number field p there below lt added =
-        plain (field_number x file field) (field_added x d file number field p there below lt added) file field (record { placed = p; there = there; within = lt; numbered = refl })
+        plain (field_number x file field) (field_added x d file number field p there below lt added) file field
+        (record { placed = p; there = there; within = lt; numbered = refl })
 
-    pub own_out : (file number field : ℕ) (p : Placed) → IsFileAt x file p → number < p.file.size → field < length p.file.fields → p.file.forlopp ≡ true → Out (field_cell p number field)
-    own_out file number field p there below lt kind added = kinds_apart x file (added_plain file number field p there below lt added) (record { placed = p; there = there; forlopp = kind })
+    pub own_out : (file number field : ℕ) (p : Placed) → IsFileAt x file p → number < p.file.size
+        → field < length p.file.fields → p.file.forlopp ≡ true → Out (field_cell p number field)
+    own_out file number field p there below lt kind added = kinds_apart x file
+        (added_plain file number field p there below lt added) (record { placed = p; there = there; forlopp = kind })
 
 module _ (x : Exchange) (kept : IsExchange x) (P : Facts) (entry : ℕ) (d : Targets) (plain : AllPlain x d.fields) where
   -- for each temporary of the block some fact stands before the point
@@ -81,15 +90,20 @@ module _ (x : Exchange) (kept : IsExchange x) (P : Facts) (entry : ℕ) (d : Tar
   abbrev OutsSo : Touch → Type 0
   OutsSo = Outs x d
 
-  variable_out : (b p v : ℕ) (l : Layer) (write : Bool) (k : Block) → slice_get x.blocks b ≡ Some k → v < length k.variables → IsApart b (Doing p l) → Accesses x P entry b p l (Variable write (variable_number x b v)) → OutSo (base_of x b + v)
+  variable_out : (b p v : ℕ) (l : Layer) (write : Bool) (k : Block) → slice_get x.blocks b ≡ Some k
+      → v < length k.variables → IsApart b (Doing p l)
+      → Accesses x P entry b p l (Variable write (variable_number x b v)) → OutSo (base_of x b + v)
   variable_out b p v l write k there lt apart is added = apart.variables (variable_number x b v) (variable_added x d b v k there lt added) write is
 
-  field_out : (b p : ℕ) (l : Layer) (write : Bool) (v : Value) (file number field : ℕ) (q : Placed) → IsFileAt x file q → number < q.file.size → field < length q.file.fields → IsApart b (Doing p l)
+  field_out : (b p : ℕ) (l : Layer) (write : Bool) (v : Value) (file number field : ℕ) (q : Placed) → IsFileAt x file q
+      → number < q.file.size → field < length q.file.fields → IsApart b (Doing p l)
       → (IsPlain x file → Accesses x P entry b p l (Field write (field_number x file field) v)) → OutSo (field_cell q number field)
   field_out b p l write v file number field q there below lt apart is added =
-      apart.fields (field_number x file field) (field_added x d file number field q there below lt added) write v (is (added_plain x d plain file number field q there below lt added))
+      apart.fields (field_number x file field) (field_added x d file number field q there below lt added) write v
+      (is (added_plain x d plain file number field q there below lt added))
 
-  named_out : (b : ℕ) (deed : Deed) (rest : List Item) (e : Expr) (v : ℕ) → DeedStands x b deed rest → IsApart b deed → IsExprOf deed e → Contains (named_in e) (NamedVariable v) → OutSo (base_of x b + v)
+  named_out : (b : ℕ) (deed : Deed) (rest : List Item) (e : Expr) (v : ℕ) → DeedStands x b deed rest → IsApart b deed
+      → IsExprOf deed e → Contains (named_in e) (NamedVariable v) → OutSo (base_of x b + v)
   named_out b (Doing p l) rest e v at apart of named =
       let f = deed_expr x kept b (Doing p l) rest e at of in
       let lt = all_contained (NamedFits (scope_of x b f.block)) (named_in e) (NamedVariable v) (names_fit (scope_of x b f.block) e f.fits) named in
@@ -97,41 +111,55 @@ module _ (x : Exchange) (kept : IsExchange x) (P : Facts) (entry : ℕ) (d : Tar
   named_out b (Starting p l) rest e v at apart of named = absurd of
   named_out b (Turning p temp this end body) rest e v at apart of named = absurd of
 
-  named_field_out : (c : Config) (deed : Deed) (rest : List Item) (e : Expr) (file field pointer : ℕ) (q : Placed) → DeedStands x c.block deed rest → IsApart c.block deed → IsExprOf deed e → Contains (named_in e) (NamedField file field pointer)
+  named_field_out : (c : Config) (deed : Deed) (rest : List Item) (e : Expr) (file field pointer : ℕ) (q : Placed)
+      → DeedStands x c.block deed rest → IsApart c.block deed → IsExprOf deed e
+      → Contains (named_in e) (NamedField file field pointer)
       → MayUse x c file (slice_index c.temps pointer) q → OutSo (field_cell q (slice_index c.temps pointer) field)
   named_field_out c (Doing p l) rest e file field pointer q at apart of named may =
       let f = deed_expr x kept c.block (Doing p l) rest e at of in
-      let is = all_contained (NamedFits (scope_of x c.block f.block)) (named_in e) (NamedField file field pointer) (names_fit (scope_of x c.block f.block) e f.fits) named in
+      let is = all_contained (NamedFits (scope_of x c.block f.block)) (named_in e) (NamedField file field pointer)
+      (names_fit (scope_of x c.block f.block) e f.fits) named in
       let number = slice_index c.temps pointer in
       let k = apart.knows pointer (temp_within x c.block pointer f.block f.there is.1) in
-      field_out c.block p l false k.0 file number field q may.there (pointer_within c.own.chain file q number may.sound) (field_of x kept c.block f.block file field q is.0 may.there) apart
+      field_out c.block p l false k.0 file number field q may.there (pointer_within c.own.chain file q number may.sound)
+      (field_of x kept c.block f.block file field q is.0 may.there) apart
       (λ plain. access.reads_field l file field pointer k.0 (record { expr = e; own = of; named = named }) plain k.1)
   named_field_out c (Starting p l) rest e file field pointer q at apart of named may = absurd of
   named_field_out c (Turning p temp this end body) rest e file field pointer q at apart of named may = absurd of
 
-  look_out : (c : Config) (deed : Deed) (rest : List Item) (cell : ℕ) → DeedStands x c.block deed rest → IsApart c.block deed → LooksAt x c deed cell → OutSo cell
+  look_out : (c : Config) (deed : Deed) (rest : List Item) (cell : ℕ) → DeedStands x c.block deed rest
+      → IsApart c.block deed → LooksAt x c deed cell → OutSo cell
   look_out c deed rest cell at apart (at_variable e v of named) = named_out c.block deed rest e v at apart of named
-  look_out c deed rest cell at apart (at_field e file field pointer placed of named may) = named_field_out c deed rest e file field pointer placed at apart of named may
+  look_out c deed rest cell at apart (at_field e file field pointer placed of named may) =
+      named_field_out c deed rest e file field pointer placed at apart of named may
   look_out c deed rest cell at apart (at_holder p {l = l} v is) =
       let f = deed_fits_in x kept c.block p l rest at in
-      variable_out c.block p v l false f.block f.there (holder_variable x kept (scope_of x c.block f.block) l v is f.fits.names) apart (access.reads_holder l v is)
+      variable_out c.block p v l false f.block f.there
+      (holder_variable x kept (scope_of x c.block f.block) l v is f.fits.names) apart (access.reads_holder l v is)
   look_out c deed rest cell at apart (at_searched p temp file field rel e label number placed record_of) =
       let l = stmt.ForFirst temp file field rel e label in
       let f = deed_fits_in x kept c.block p l rest at in
-      field_out c.block p l false Any file number field placed record_of.there record_of.within (field_of x kept c.block f.block file field placed f.fits.names.2 record_of.there) apart
+      field_out c.block p l false Any file number field placed record_of.there record_of.within
+      (field_of x kept c.block f.block file field placed f.fits.names.2 record_of.there) apart
       (λ plain. access.searches temp file field rel e label)
   look_out c deed rest cell at apart (at_mark p temp file label number placed record_of) =
       let f = deed_fits_in x kept c.block p (stmt.Seize temp file label) rest at in
       mark_out x d file number placed record_of.there record_of.within (forlopp_of x kept c.block f.block file true placed f.fits.names.1 record_of.there)
 
-  looks_out : (c : Config) (deed : Deed) (rest : List Item) (loads : List Touch) → DeedStands x c.block deed rest → IsApart c.block deed → AllByRecursion (IsLook x c deed) loads → AllByRecursion OutsSo loads
+  looks_out : (c : Config) (deed : Deed) (rest : List Item) (loads : List Touch) → DeedStands x c.block deed rest
+      → IsApart c.block deed → AllByRecursion (IsLook x c deed) loads → AllByRecursion OutsSo loads
   looks_out c deed rest [] at apart each = tt
-  looks_out c deed rest (t ∷ loads) at apart each = (subst OutsSo (sym each.0.is) (look_out c deed rest each.0.cell at apart each.0.at), looks_out c deed rest loads at apart each.1)
+  looks_out c deed rest (t ∷ loads) at apart each = (
+    subst OutsSo (sym each.0.is)
+        (look_out c deed rest each.0.cell at apart each.0.at),
+    looks_out c deed rest loads at apart each.1,
+  )
 
   abbrev AreOut : Config → Type 0
   AreOut c = AllByRecursion OutsSo c.world.trace
 
-  effect_out : (deed : Deed) (rest : List Item) (c e : Config) → DeedStands x c.block deed rest → IsApart c.block deed → AreOut c → Effect x deed rest c e → AreOut e
+  effect_out : (deed : Deed) (rest : List Item) (c e : Config) → DeedStands x c.block deed rest → IsApart c.block deed
+      → AreOut c → Effect x deed rest c e → AreOut e
   effect_out deed rest c e at apart all (Looks o loads each) = all_append OutsSo c.world.trace loads all (looks_out c deed rest loads at apart each)
   effect_out deed rest c e at apart all (PutsVariable o p variable expr v is value fits) =
       let l = stmt.SetVariable variable expr in
@@ -144,19 +172,23 @@ module _ (x : Exchange) (kept : IsExchange x) (P : Facts) (entry : ℕ) (d : Tar
       let number = slice_index c.temps pointer in
       let here = subst (IsApart c.block) is apart in
       let k = here.knows pointer (temp_within x c.block pointer g.block g.there g.fits.names.1) in
-      let out = field_out c.block p l true k.0 file number field placed may.there (pointer_within c.own.chain file placed number may.sound) (field_of x kept c.block g.block file field placed g.fits.names.0 may.there) here
+      let out = field_out c.block p l true k.0 file number field placed may.there
+      (pointer_within c.own.chain file placed number may.sound)
+      (field_of x kept c.block g.block file field placed g.fits.names.0 may.there) here
       (λ plain. access.writes_field file field pointer expr k.0 plain k.1) in
       all_append OutsSo c.world.trace (Store (field_cell placed number field) v ∷ []) all (out, tt)
   effect_out deed rest c e at apart all (Seizes o p temp file label number placed is record_of some room free) =
       let g = deed_fits_in x kept c.block p (stmt.Seize temp file label) rest (subst (λ (a : Deed). DeedStands x c.block a rest) is at) in
-      let out = mark_out x d file number placed record_of.there record_of.within (forlopp_of x kept c.block g.block file true placed g.fits.names.1 record_of.there) in
+      let out = mark_out x d file number placed record_of.there record_of.within
+      (forlopp_of x kept c.block g.block file true placed g.fits.names.1 record_of.there) in
       all_append OutsSo c.world.trace (Store (mark_cell placed number) 1 ∷ []) all (out, tt)
   effect_out deed rest c e at apart all (Frees o p temp file placed is may) =
       let g = deed_fits_in x kept c.block p (stmt.Free temp file) rest (subst (λ (a : Deed). DeedStands x c.block a rest) is at) in
       let number = slice_index c.temps temp in
       let within = pointer_within c.own.chain file placed number may.sound in
       let kind = forlopp_of x kept c.block g.block file true placed g.fits.names.1 may.there in
-      record_all OutsSo placed number c.world (λ i v there. own_out x d plain file number i placed may.there within (slice_get_within placed.file.fields i v there) kind)
+      record_all OutsSo placed number c.world (λ i v there. own_out x d plain file number i placed may.there within
+      (slice_get_within placed.file.fields i v there) kind)
       (mark_out x d file number placed may.there within kind) all
   effect_out deed rest c e at apart all (Goes o todo temps on) = all
   effect_out deed rest c e at apart all (Posts o to vs is room) = all
@@ -165,9 +197,11 @@ module _ (x : Exchange) (kept : IsExchange x) (P : Facts) (entry : ℕ) (d : Tar
   leave_out deed rest c e all (Faults o f why) = all
   leave_out deed rest c e all _ = all
 
-  pub effects_out : (deed : Deed) (rest : List Item) (temps : List ℕ) (c e : Config) → DeedStands x c.block deed rest → IsApart c.block deed → AreOut c → Effects x deed rest temps c e → AreOut e
+  pub effects_out : (deed : Deed) (rest : List Item) (temps : List ℕ) (c e : Config) → DeedStands x c.block deed rest
+      → IsApart c.block deed → AreOut c → Effects x deed rest temps c e → AreOut e
   effects_out deed rest temps c e at apart all (Done f) = all
   effects_out deed rest temps c e at apart all (Then a b f same effect more) =
       let block = sym (effect_block c b effect) in
-      effects_out deed rest temps b e (subst (λ n. DeedStands x n deed rest) block at) (subst (λ n. IsApart n deed) block apart) (effect_out deed rest c b at apart all effect) more
+      effects_out deed rest temps b e (subst (λ n. DeedStands x n deed rest) block at)
+      (subst (λ n. IsApart n deed) block apart) (effect_out deed rest c b at apart all effect) more
   effects_out deed rest temps c e at apart all (Last a b same leave) = leave_out deed rest c e all leave

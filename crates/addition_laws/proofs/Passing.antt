@@ -1,5 +1,5 @@
--- What two jobs that pass but for additions have in common with two that pass: by their summaries without the accesses to what both
--- only add to they share no word.
+-- What two jobs that pass but for additions have in common with two that pass: by their summaries
+-- without the accesses to what both only add to they share no word.
 use Rattle.std.proofs.Common.{◌≡◌, ℕ, List, [], ◌∷◌, refl, sym, ◌∙◌, subst}
 use Rattle.std.specs.List.{Contains}
 use Rattle.plex_num.specs.declared.level.Level.{Level}
@@ -16,7 +16,8 @@ use Rattle.source_meaning.specs.Valid.{IsFitting, IsJob, IsValid}
 use Rattle.flow_points.specs.declared.fact.Fact.{Fact}
 use Rattle.flow_points.specs.Facts.{Facts, IsClosed}
 use Rattle.entry_summary.specs.declared.summary.Access.{Access}
-use Rattle.entry_summary.specs.declared.summary.Access.TheVariants.{Variable, Field, Own, Seizes, Frees}
+use Rattle.entry_summary.specs.declared.summary.Access.TheVariants.{Variable, Field, Own, Seizes}
+use Rattle.entry_summary.specs.declared.summary.Access.TheVariants.{Frees}
 use Rattle.entry_summary.specs.declared.summary.Summary.{Summary}
 use Rattle.entry_summary.specs.Summaries.{IsSummary}
 use Rattle.pair_tests.specs.Pairs.{Passes}
@@ -62,7 +63,8 @@ module _ (x : Exchange) (facts : List Fact) (s : State) (first later : Summary) 
   -- before they retire
   pub passing_order : IsClosed x (Contains facts) → SameInEitherOrder x s.store a b []
   passing_order closed =
-      permitted_order x (Contains facts) s first later a b h.passes.shared h.exchange closed h.state h.first_fits h.later_fits h.first_told h.later_told h.passes.first_only h.passes.later_only shares
+      permitted_order x (Contains facts) s first later a b h.passes.shared h.exchange closed h.state h.first_fits
+      h.later_fits h.first_told h.later_told h.passes.first_only h.passes.later_only shares
 
 -- sends to the levels of a summary, where another one has the same levels
 
@@ -75,7 +77,8 @@ levels_same m n [] is all = tt
 levels_same m n (s ∷ rest) is all = (level_same m n s.to is all.0, levels_same m n rest is all.1)
 
 -- the first lets the later one keep its turn, wherever it begins
-module _ (x : Exchange) (facts : List Fact) (kept : IsExchange x) (closed : IsClosed x (Contains facts)) (first later : Summary) (a b : JobStart) (first_told : IsSummary x (Contains facts) a.job.entry first)
+module _ (x : Exchange) (facts : List Fact) (kept : IsExchange x) (closed : IsClosed x (Contains facts))
+    (first later : Summary) (a b : JobStart) (first_told : IsSummary x (Contains facts) a.job.entry first)
     (later_told : IsSummary x (Contains facts) b.job.entry later) (is_job : IsJob x b.job) (p : PassesAdding x (Contains facts) first later a b) where
   pub stays_adding : (s : State) → IsValid x s → IsFitting x s a → LetsStay a (done_by (job x a s.store)) b.job
   stays_adding s valid fits =

@@ -20,7 +20,8 @@ use Rattle.additions_meaning.specs.Additions.{OnlyAddsToEach, IsAddedWord, Targe
 use Rattle.addition_laws.specs.Either.{AreApartBut, SameInEitherOrder, ShareOnly}
 use Rattle.addition_laws.proofs.Ordering.{either_order}
 
-pub permitted_order : (x : Exchange) (P : Facts) (s : State) (first later : Summary) (a b : JobStart) (d : Targets) → IsExchange x → IsClosed x P → IsValid x s → IsFitting x s a → IsFitting x s b
+pub permitted_order : (x : Exchange) (P : Facts) (s : State) (first later : Summary) (a b : JobStart) (d : Targets)
+    → IsExchange x → IsClosed x P → IsValid x s → IsFitting x s a → IsFitting x s b
     → IsSummary x P a.job.entry first → IsSummary x P b.job.entry later → OnlyAddsToEach x P a.job.entry d → OnlyAddsToEach x P b.job.entry d
     → ShareOnly x (IsAddedWord x d) s first later a b → SameInEitherOrder x s.store a b []
 permitted_order x P s first later a b d kept closed valid first_fits later_fits first_told later_told first_only later_only share =
@@ -40,8 +41,11 @@ permitted_order x P s first later a b d kept closed valid first_fits later_fits 
 
     apart : AreApartBut x (IsAddedWord x d) s.store a b []
     apart = record {
-      first = λ w not at. subst (NoStore w) (sym (append-nil ts)) (not_stored x first a s.chains ts w firsts (λ writes. not (share.first_writes w writes (touched_read x later b s.chains us w laters at))));
-      later = λ w not at. not_stored x later b s.chains us w laters (λ writes. not (share.later_writes w (touched_read x first a s.chains ts w firsts at) writes));
+      first = λ w not at. subst (NoStore w) (sym (append-nil ts))
+          (not_stored x first a s.chains ts w firsts
+          (λ writes. not (share.first_writes w writes (touched_read x later b s.chains us w laters at))));
+      later = λ w not at. not_stored x later b s.chains us w laters
+          (λ writes. not (share.later_writes w (touched_read x first a s.chains ts w firsts at) writes));
       outside = tt;
       fits = (job_in_range x kept a s.store first_fits.job valid.store).store;
     }

@@ -1,4 +1,5 @@
--- The retirement of a job of a forlopp stores to no added word: what it opens are records of forlopp files.
+-- The retirement of a job of a forlopp stores to no added word: what it opens are records of
+-- forlopp files.
 use Rattle.std.proofs.Common.{List, [], ◌∷◌, sym, subst}
 use Rattle.std.proofs.lemmas.Option.{slice_get_within}
 use Rattle.std.specs.List.{AllByRecursion}
@@ -31,7 +32,8 @@ module _ (x : Exchange) (d : Targets) (plain : AllPlain x d.fields) where
       (λ field e at. own_out x d plain r.file r.number field i.placed i.here.there i.here.within (slice_get_within i.placed.file.fields field e at) i.kind)
       (mark_out x d r.file r.number i.placed i.here.there i.here.within i.kind) all)
 
-  each_out : (held : List Held) (world : World) → AllByRecursion (IsRecord x) held → AllByRecursion OutsSo world.trace → AllByRecursion OutsSo (all_opened (files_of x) held world).trace
+  each_out : (held : List Held) (world : World) → AllByRecursion (IsRecord x) held → AllByRecursion OutsSo world.trace
+      → AllByRecursion OutsSo (all_opened (files_of x) held world).trace
   each_out [] world records all = all
   each_out (r ∷ rest) world records all = each_out rest (opened (files_of x) r world) records.1 (one_out r world records.0 all)
 

@@ -1,4 +1,5 @@
--- What a job may touch by its summary is an added word, or it may touch it by the summary that spares these.
+-- What a job may touch by its summary is an added word, or it may touch it by the summary that
+-- spares these.
 use Rattle.std.proofs.Common.{◌⊎◌, inl, inr, ⊎_elim, ℕ, Bool}
 use Rattle.std.specs.List.{Contains}
 use Rattle.job_types.specs.declared.job.JobStart.{JobStart}
@@ -6,7 +7,8 @@ use Rattle.job_types.specs.Forlopps.{ChainMap}
 use Rattle.exchange_model.specs.declared.exchange.Exchange.{Exchange}
 use Rattle.source_meaning.specs.State.{State}
 use Rattle.entry_summary.specs.declared.summary.Access.{Access}
-use Rattle.entry_summary.specs.declared.summary.Access.TheVariants.{Variable, Field, Own, Seizes, Frees}
+use Rattle.entry_summary.specs.declared.summary.Access.TheVariants.{Variable, Field, Own, Seizes}
+use Rattle.entry_summary.specs.declared.summary.Access.TheVariants.{Frees}
 use Rattle.entry_summary.specs.declared.summary.Summary.{Summary}
 use Rattle.start_permit.specs.Granted.{Lets, MayHold, MayRead, MayWrite, OneOf}
 use Rattle.pair_laws.specs.Together.{HaveOwnWords}
@@ -44,7 +46,11 @@ module _ (x : Exchange) (d : Targets) (m n : Summary) (sparing : IsSparing d m n
           there = listed;
           gives = record { file = f.file; field = f.field; at = f.at; of_record = record { number = r.number; below = r.below; chosen = tt; is = r.is } };
         })))
-        (λ none. inr (record { item = Field u number selector; there = stands (Field u number selector) there none; gives = record { does = h.does; has = h.has } }))
+        (λ none. inr (record {
+          item = Field u number selector;
+          there = stands (Field u number selector) there none;
+          gives = record { does = h.does; has = h.has };
+        }))
         (is_listed number d.fields)
     one_lets write w (Own u number) there h =
         let f = h.has in
@@ -52,16 +58,41 @@ module _ (x : Exchange) (d : Targets) (m n : Summary) (sparing : IsSparing d m n
         inr (record {
           item = Own u number;
           there = stands (Own u number) there (λ none. none);
-          gives = record { does = h.does; has = record { file = f.file; field = f.field; at = f.at; of_record = record { number = r.number; below = r.below; chosen = held f.file r.number r.chosen; is = r.is } } };
+          gives = record {
+            does = h.does;
+            has = record {
+              file = f.file;
+              field = f.field;
+              at = f.at;
+              of_record = record {
+                number = r.number;
+                below = r.below;
+                chosen = held f.file r.number r.chosen;
+                is = r.is;
+              };
+            };
+          };
         })
-    one_lets write w (Seizes file) there h = inr (record { item = Seizes file; there = stands (Seizes file) there (λ none. none); gives = record { does = h.does; has = h.has } })
+    one_lets write w (Seizes file) there h = inr
+        (record {
+          item = Seizes file;
+          there = stands (Seizes file) there (λ none. none);
+          gives = record { does = h.does; has = h.has };
+        })
     one_lets write w (Frees file) there h =
         let f = h.has in
         let r = f.of_record in
         inr (record {
           item = Frees file;
           there = stands (Frees file) there (λ none. none);
-          gives = record { does = h.does; has = record { placed = f.placed; there = f.there; of_record = record { number = r.number; below = r.below; chosen = held file r.number r.chosen; is = r.is } } };
+          gives = record {
+            does = h.does;
+            has = record {
+              placed = f.placed;
+              there = f.there;
+              of_record = record { number = r.number; below = r.below; chosen = held file r.number r.chosen; is = r.is };
+            };
+          };
         })
 
     pub writes_spared : (w : ℕ) → MayWrite x m start chains w → Added w ⊎ MayWrite x n start chains w
@@ -78,8 +109,12 @@ either_third not (inr a) (inl c) = c
 either_third not (inr a) (inr b) = absurd (not a b)
 
 -- where the summaries that spare them share no word, the whole ones share added words alone
-pub share_only : (x : Exchange) (d : Targets) (s : State) (first later one other : Summary) (a b : JobStart) → IsSparing d first one → IsSparing d later other → HaveOwnWords x s one other a b → ShareOnly x (IsAddedWord x d) s first later a b
+pub share_only : (x : Exchange) (d : Targets) (s : State) (first later one other : Summary) (a b : JobStart)
+    → IsSparing d first one → IsSparing d later other → HaveOwnWords x s one other a b
+    → ShareOnly x (IsAddedWord x d) s first later a b
 share_only x d s first later one other a b of_first of_later own = record {
-  first_writes = λ w p q. either_third (own.first_writes w) (writes_spared x d first one of_first a s.chains w p) (reads_spared x d later other of_later b s.chains w q);
-  later_writes = λ w p q. either_third (own.later_writes w) (reads_spared x d first one of_first a s.chains w p) (writes_spared x d later other of_later b s.chains w q);
+  first_writes = λ w p q. either_third (own.first_writes w) (writes_spared x d first one of_first a s.chains w p)
+      (reads_spared x d later other of_later b s.chains w q);
+  later_writes = λ w p q. either_third (own.later_writes w) (reads_spared x d first one of_first a s.chains w p)
+      (writes_spared x d later other of_later b s.chains w q);
 }

@@ -1,5 +1,6 @@
 -- The accesses of the jobs of an entry, and the levels to which they send, as lists.
-use Rattle.std.proofs.Common.{◌≡◌, ◌⊎◌, inl, inr, ℕ, ◌<◌, Bool, true, false, List, Option, Some, Contains, length, slice_get, refl, sym, subst}
+use Rattle.std.proofs.Common.{◌≡◌, ◌⊎◌, inl, inr, ℕ, ◌<◌, Bool, true, false, List, Option, Some}
+use Rattle.std.proofs.Common.{Contains, length, slice_get, refl, sym, subst}
 use Rattle.plex_num.specs.declared.level.Level.{Level}
 use Rattle.exchange_model.specs.declared.exchange.Exchange.{Exchange}
 use Rattle.exchange_model.specs.declared.signal.SignalKind.{SignalKind}
@@ -18,13 +19,18 @@ use Rattle.flow_points.specs.declared.fact.Value.TheVariants.{Any}
 use Rattle.flow_points.specs.Facts.{Facts, Known, Reached}
 use Rattle.flow_points.specs.Places.{IsPlace, Place}
 use Rattle.entry_summary.specs.declared.summary.Access.{Access}
-use Rattle.entry_summary.specs.declared.summary.Access.TheVariants.{Field, Frees, Own, Seizes, Variable}
-use Rattle.entry_summary.specs.Accesses.{Accesses, IsAccess, IsForlopp, IsPlain, frees, opens_own, reads, reads_field, reads_holder, reads_own, searches, seizes, writes, writes_field, writes_own}
+use Rattle.entry_summary.specs.declared.summary.Access.TheVariants.{Field, Frees, Own, Seizes}
+use Rattle.entry_summary.specs.declared.summary.Access.TheVariants.{Variable}
+use Rattle.entry_summary.specs.Accesses.{Accesses, IsAccess, IsForlopp, IsPlain, frees, opens_own}
+use Rattle.entry_summary.specs.Accesses.{reads, reads_field, reads_holder, reads_own, searches}
+use Rattle.entry_summary.specs.Accesses.{seizes, writes, writes_field, writes_own}
 use Rattle.entry_summary.specs.Numbers.{field_number, variable_number}
 use Rattle.entry_summary.specs.Summaries.{MaySendTo, SendsTo, sends}
-use Rattle.finite_facts.proofs.Finite.{Listed, below, listed_as, listed_map, listed_none, listed_one, listed_or, listed_then, listed_when}
+use Rattle.finite_facts.proofs.Finite.{Listed, below, listed_as, listed_map, listed_none}
+use Rattle.finite_facts.proofs.Finite.{listed_one, listed_or, listed_then, listed_when}
 use Rattle.finite_facts.proofs.Giving.{is_reached, known_values}
-use Rattle.analysis_existence.proofs.Naming.{Names, file_at, holder_in, is_forlopp, is_plain, names, names_field, names_variable}
+use Rattle.analysis_existence.proofs.Naming.{Names, file_at, holder_in, is_forlopp, is_plain, names}
+use Rattle.analysis_existence.proofs.Naming.{names_field, names_variable}
 use Rattle.finite_facts.proofs.Places.{places}
 
 module _ (x : Exchange) (known : List Fact) (e : ℕ) where
@@ -33,11 +39,15 @@ module _ (x : Exchange) (known : List Fact) (e : ℕ) where
 
   -- a field in a record of a plain file, or in one of its own
   abbrev OfField : Bool → ℕ → ℕ → ℕ → ℕ → Access → Type 0
-  OfField w p file field pointer a = (IsPlain x file × ((v : Value) × Known P e p (Temp pointer) v × (a ≡ Field w (field_number x file field) v))) ⊎ (IsForlopp x file × (a ≡ Own w (field_number x file field)))
+  OfField w p file field pointer a = (IsPlain x file
+      × ((v : Value) × Known P e p (Temp pointer) v × (a ≡ Field w (field_number x file field) v)))
+      ⊎ (IsForlopp x file × (a ≡ Own w (field_number x file field)))
 
   of_field : (w : Bool) (p file field pointer : ℕ) → Listed (OfField w p file field pointer)
   of_field w p file field pointer =
-      listed_or (λ a. IsPlain x file × ((v : Value) × Known P e p (Temp pointer) v × (a ≡ Field w (field_number x file field) v))) (λ a. IsForlopp x file × (a ≡ Own w (field_number x file field)))
+      listed_or (λ a. IsPlain x file × ((v : Value) × Known P e p (Temp pointer) v
+      × (a ≡ Field w (field_number x file field) v)))
+      (λ a. IsForlopp x file × (a ≡ Own w (field_number x file field)))
       (listed_when (IsPlain x file) (λ a. (v : Value) × Known P e p (Temp pointer) v × (a ≡ Field w (field_number x file field) v)) (is_plain x file)
       (λ plain. listed_map (λ v. Known P e p (Temp pointer) v) (λ v. Field w (field_number x file field) v) (known_values known e p (Temp pointer))))
       (listed_when (IsForlopp x file) (λ a. a ≡ Own w (field_number x file field)) (is_forlopp x file) (λ own. listed_one (Own w (field_number x file field))))
@@ -78,8 +88,11 @@ module _ (x : Exchange) (known : List Fact) (e : ℕ) where
   of_layer b p (stmt.ForFirst temp file field rel value label) = listed_one (Field false (field_number x file field) Any)
   of_layer b p (stmt.Free temp file) =
       listed_or (Opened file) (λ a. a ≡ Frees file)
-      (listed_then (λ placed. IsFileAt x file placed) (λ placed a. (field : ℕ) × (field < length placed.file.fields) × (a ≡ Own true (field_number x file field))) (file_at x file)
-      (λ placed there. listed_map (λ field. field < length placed.file.fields) (λ field. Own true (field_number x file field)) (below (length placed.file.fields))))
+      (listed_then (λ placed. IsFileAt x file placed)
+      (λ placed a. (field : ℕ) × (field < length placed.file.fields) × (a ≡ Own true (field_number x file field)))
+      (file_at x file)
+      (λ placed there. listed_map (λ field. field < length placed.file.fields)
+      (λ field. Own true (field_number x file field)) (below (length placed.file.fields))))
       (listed_one (Frees file))
   of_layer b p (stmt.Seize temp file label) = listed_one (Seizes file)
   of_layer b p l = listed_none (OfLayer b p l) (λ a h. h)
@@ -97,7 +110,8 @@ module _ (x : Exchange) (known : List Fact) (e : ℕ) where
   by_to b p _ _ (reads l variable named) = inl (NamedVariable variable, (named.expr, named.own, named.named), refl)
   by_to b p _ _ (reads_holder l variable held) = inr (inl (holder.Variable variable, held, refl))
   by_to b p _ _ (writes variable value) = inr (inr refl)
-  by_to b p _ _ (reads_field l file field pointer v named plain k) = inl (NamedField file field pointer, (named.expr, named.own, named.named), inl (plain, (v, k, refl)))
+  by_to b p _ _ (reads_field l file field pointer v named plain k) = inl
+      (NamedField file field pointer, (named.expr, named.own, named.named), inl (plain, (v, k, refl)))
   by_to b p _ _ (writes_field file field pointer value v plain k) = inr (inr (inl (plain, (v, k, refl))))
   by_to b p _ _ (searches temp file field rel value label) = inr (inr refl)
   by_to b p _ _ (reads_own l file field pointer named own) = inl (NamedField file field pointer, (named.expr, named.own, named.named), inr (own, refl))
@@ -111,8 +125,10 @@ module _ (x : Exchange) (known : List Fact) (e : ℕ) where
 
   name_from : (b p : ℕ) (l : Layer) (a : Access) (n : Named) → Names l n → OfName b p n a → Does b p l a
   name_from b p l a (NamedVariable v) h is = subst (Does b p l) (sym is) (reads l v (names_variable l v h))
-  name_from b p l a (NamedField file field pointer) h (inl (plain, (v, k, is))) = subst (Does b p l) (sym is) (reads_field l file field pointer v (names_field l file field pointer h) plain k)
-  name_from b p l a (NamedField file field pointer) h (inr (own, is)) = subst (Does b p l) (sym is) (reads_own l file field pointer (names_field l file field pointer h) own)
+  name_from b p l a (NamedField file field pointer) h (inl (plain, (v, k, is))) = subst (Does b p l) (sym is)
+      (reads_field l file field pointer v (names_field l file field pointer h) plain k)
+  name_from b p l a (NamedField file field pointer) h (inr (own, is)) = subst (Does b p l) (sym is)
+      (reads_own l file field pointer (names_field l file field pointer h) own)
 
   holder_from : (b p : ℕ) (l : Layer) (a : Access) (h : Holder) → receiver_in l ≡ Some (receiver.Held h) → OfHolder b h a → Does b p l a
   holder_from b p l a (holder.Temporary t) held is = absurd is
@@ -120,10 +136,14 @@ module _ (x : Exchange) (known : List Fact) (e : ℕ) where
 
   layer_from : (b p : ℕ) (l : Layer) (a : Access) → OfLayer b p l a → Does b p l a
   layer_from b p (stmt.SetVariable variable value) a is = subst (Does b p (stmt.SetVariable variable value)) (sym is) (writes variable value)
-  layer_from b p (stmt.SetField file field pointer value) a (inl (plain, (v, k, is))) = subst (Does b p (stmt.SetField file field pointer value)) (sym is) (writes_field file field pointer value v plain k)
-  layer_from b p (stmt.SetField file field pointer value) a (inr (own, is)) = subst (Does b p (stmt.SetField file field pointer value)) (sym is) (writes_own file field pointer value own)
-  layer_from b p (stmt.ForFirst temp file field rel value label) a is = subst (Does b p (stmt.ForFirst temp file field rel value label)) (sym is) (searches temp file field rel value label)
-  layer_from b p (stmt.Free temp file) a (inl (placed, there, (field, lt, is))) = subst (Does b p (stmt.Free temp file)) (sym is) (opens_own temp file field placed there lt)
+  layer_from b p (stmt.SetField file field pointer value) a (inl (plain, (v, k, is))) = subst
+      (Does b p (stmt.SetField file field pointer value)) (sym is) (writes_field file field pointer value v plain k)
+  layer_from b p (stmt.SetField file field pointer value) a (inr (own, is)) = subst
+      (Does b p (stmt.SetField file field pointer value)) (sym is) (writes_own file field pointer value own)
+  layer_from b p (stmt.ForFirst temp file field rel value label) a is = subst
+      (Does b p (stmt.ForFirst temp file field rel value label)) (sym is) (searches temp file field rel value label)
+  layer_from b p (stmt.Free temp file) a (inl (placed, there, (field, lt, is))) =
+      subst (Does b p (stmt.Free temp file)) (sym is) (opens_own temp file field placed there lt)
   layer_from b p (stmt.Free temp file) a (inr is) = subst (Does b p (stmt.Free temp file)) (sym is) (frees temp file)
   layer_from b p (stmt.Seize temp file label) a is = subst (Does b p (stmt.Seize temp file label)) (sym is) (seizes temp file label)
   layer_from b p _ a is = absurd is
@@ -138,15 +158,26 @@ module _ (x : Exchange) (known : List Fact) (e : ℕ) where
       listed_as (By b p l) (Does b p l) (by_from b p l) (by_to b p l)
       (listed_or (ByName b p l) (λ a. ByHolder b l a ⊎ OfLayer b p l a)
       (listed_then (Names l) (OfName b p) (names l) (λ n h. of_name b p n))
-      (listed_or (ByHolder b l) (OfLayer b p l) (listed_then (λ h. receiver_in l ≡ Some (receiver.Held h)) (OfHolder b) (holder_in l) (λ h held. of_holder b h)) (of_layer b p l)))
+      (listed_or (ByHolder b l) (OfLayer b p l)
+      (listed_then (λ h. receiver_in l ≡ Some (receiver.Held h)) (OfHolder b) (holder_in l)
+      (λ h held. of_holder b h)) (of_layer b p l)))
 
   pub accesses : Listed (IsAccess x P e)
   accesses =
       listed_as (λ a. (at : Place) × IsPlace x at × (Reached P e at.point × Does at.block at.point at.layer a)) (IsAccess x P e)
       (λ a h. record { at = h.0; point = h.0.point; stands = record { place = h.1; here = refl }; reached = h.2.0; access = h.2.1 })
-      (λ a i. (i.at, i.stands.place, (subst (Reached P e) (sym i.stands.here) i.reached, subst (λ p. Accesses x P e i.at.block p i.at.layer a) (sym i.stands.here) i.access)))
+      (λ a i. (
+        i.at,
+        i.stands.place,
+        (
+          subst (Reached P e) (sym i.stands.here) i.reached,
+          subst
+              (λ p. Accesses x P e i.at.block p i.at.layer a) (sym i.stands.here) i.access,
+        ),
+      ))
       (listed_then (IsPlace x) (λ at a. Reached P e at.point × Does at.block at.point at.layer a) (places x)
-      (λ at is. listed_when (Reached P e at.point) (Does at.block at.point at.layer) (is_reached known e at.point) (λ reached. does at.block at.point at.layer)))
+      (λ at is. listed_when (Reached P e at.point) (Does at.block at.point at.layer) (is_reached known e at.point)
+      (λ reached. does at.block at.point at.layer)))
 
   -- levels
 
@@ -173,7 +204,8 @@ module _ (x : Exchange) (known : List Fact) (e : ℕ) where
   sent_from (stmt.Send signal to values fresh) v h = by (slice_get x.signals signal) refl h
     where
       by : (o : Option SignalKind) → slice_get x.signals signal ≡ o → OfSignal o v → SendsTo x (stmt.Send signal to values fresh) v
-      by (Some (Buffered name level count)) there is = subst (SendsTo x (stmt.Send signal to values fresh)) (sym is) (sends signal to values fresh name level count there)
+      by (Some (Buffered name level count)) there is = subst (SendsTo x (stmt.Send signal to values fresh)) (sym is)
+          (sends signal to values fresh name level count there)
       by _ there is = absurd is
   sent_from _ v h = absurd h
 
@@ -183,4 +215,6 @@ module _ (x : Exchange) (known : List Fact) (e : ℕ) where
       (λ l h. record { at = h.0; point = h.0.point; stands = record { place = h.1; here = refl }; reached = h.2.0; sends = h.2.1 })
       (λ l m. (m.at, m.stands.place, (subst (Reached P e) (sym m.stands.here) m.reached, m.sends)))
       (listed_then (IsPlace x) (λ at l. Reached P e at.point × SendsTo x at.layer l) (places x)
-      (λ at is. listed_when (Reached P e at.point) (SendsTo x at.layer) (is_reached known e at.point) (λ reached. listed_as (SentBy at.layer) (SendsTo x at.layer) (sent_from at.layer) (sent_to at.layer) (sent_by at.layer))))
+      (λ at is. listed_when (Reached P e at.point) (SendsTo x at.layer) (is_reached known e at.point)
+      (λ reached. listed_as (SentBy at.layer) (SendsTo x at.layer) (sent_from at.layer) (sent_to at.layer)
+      (sent_by at.layer))))

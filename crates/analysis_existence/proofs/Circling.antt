@@ -1,5 +1,6 @@
 -- Whether a job may count too many statements, or send too many signals, is decided.
-use Rattle.std.proofs.Common.{◌≡◌, ◌⊎◌, inl, inr, ℕ, ◌<◌, false, nat_eq, List, [], ◌∷◌, length, Option, Some, Contains, slice_get, refl, sym, subst, arith}
+use Rattle.std.proofs.Common.{◌≡◌, ◌⊎◌, inl, inr, ℕ, ◌<◌, false, nat_eq, List, [], ◌∷◌, length}
+use Rattle.std.proofs.Common.{Option, Some, Contains, slice_get, refl, sym, subst, arith}
 use Rattle.std.proofs.lemmas.Bool.{ne_eqb}
 use Rattle.std.specs.List.{AllByRecursion, IsDistinct}
 use Rattle.plex_limits.specs.declared.limits.TheConstants.{MOST_SENT}
@@ -14,11 +15,15 @@ use Rattle.flow_points.specs.declared.flow.Passing.{Passing}
 use Rattle.flow_points.specs.Facts.{Facts, Reached}
 use Rattle.flow_points.specs.Flows.{LeadsTo}
 use Rattle.flow_points.specs.Places.{IsPlace, Place}
-use Rattle.entry_summary.specs.Faults.{GoesRound, FlowLeads, JoinsOutbox, MayFault, Once, Posts, PostsAt, Then, TooManySends, Walk}
+use Rattle.entry_summary.specs.Faults.{GoesRound, FlowLeads, JoinsOutbox, MayFault, Once, Posts}
+use Rattle.entry_summary.specs.Faults.{PostsAt, Then, TooManySends, Walk}
 use Rattle.finite_facts.proofs.Closing.{Closed, IsBuilt, closing}
 use Rattle.entry_faults.proofs.Sending.{no_more}
 use Rattle.analysis_existence.proofs.Faulting.{some_faults}
-use Rattle.finite_facts.proofs.Finite.{Decided, Listed, both, certain, decided_as, either, impossible, is_in, less, listed_as, listed_in, listed_map, listed_one, listed_or, listed_then, listed_when, no, same_number, some_case, yes}
+use Rattle.finite_facts.proofs.Finite.{Decided, Listed, both, certain, decided_as, either}
+use Rattle.finite_facts.proofs.Finite.{impossible, is_in, less, listed_as, listed_in, listed_map}
+use Rattle.finite_facts.proofs.Finite.{listed_one, listed_or, listed_then, listed_when, no}
+use Rattle.finite_facts.proofs.Finite.{same_number, some_case, yes}
 use Rattle.finite_facts.proofs.Giving.{is_reached}
 use Rattle.finite_facts.proofs.Leading.{WayOn, leads}
 use Rattle.finite_facts.proofs.Places.{places}
@@ -54,7 +59,12 @@ each_once (x ∷ xs) = by (each_once xs)
 
     at : (o : EachOnce xs) → Decided (Contains o.items x) → EachOnce (x ∷ xs)
     at o (yes old) = record { items = o.items; once = o.once; has = λ n c. kept o old n (first_or_later x n xs c); from = λ n c. later_is x n xs (o.from n c) }
-    at o (no new) = record { items = x ∷ o.items; once = (all_other x o.items new, o.once); has = λ n c. added o n (first_or_later x n xs c); from = λ n c. back o n (first_or_later x n o.items c) }
+    at o (no new) = record {
+      items = x ∷ o.items;
+      once = (all_other x o.items new, o.once);
+      has = λ n c. added o n (first_or_later x n xs c);
+      from = λ n c. back o n (first_or_later x n o.items c);
+    }
 
     by : EachOnce xs → EachOnce (x ∷ xs)
     by o = at o (is_in same_number o.items x)
@@ -80,14 +90,16 @@ module _ (x : Exchange) (known : List Fact) (e : ℕ) where
       (λ p h. subst (PostsAt x P e) (sym h.2.1) (record { at = h.0; stands = record { place = h.1; here = refl }; reached = h.2.0.0; posts = h.2.0.1 }))
       (λ p h. (h.at, h.stands.place, ((subst (Reached P e) (sym h.stands.here) h.reached, h.posts), sym h.stands.here)))
       (listed_then (IsPlace x) (λ at p. (Reached P e at.point × Posts x at.layer) × (p ≡ at.point)) (places x)
-      (λ at is. listed_when (Reached P e at.point × Posts x at.layer) (λ p. p ≡ at.point) (both (is_reached known e at.point) (posts at.layer)) (λ h. listed_one at.point)))
+      (λ at is. listed_when (Reached P e at.point × Posts x at.layer) (λ p. p ≡ at.point)
+      (both (is_reached known e at.point) (posts at.layer)) (λ h. listed_one at.point)))
 
   too_many : Decided (TooManySends x P e)
   too_many = by (each_once posting.items)
     where
       at : (o : EachOnce posting.items) → Decided (MOST_SENT < length o.items) → Decided (TooManySends x P e)
       at o (yes many) = yes (record { points = o.items; once = o.once; each = λ p c. posting.each p (o.from p c); many = many })
-      at o (no few) = no (λ t. few (let within = no_more t.points o.items t.once (λ p c. o.has p (posting.all p (t.each p c))) in let many = t.many in omega (arith, within, many)))
+      at o (no few) = no (λ t. few (let within = no_more t.points o.items t.once
+          (λ p c. o.has p (posting.all p (t.each p c))) in let many = t.many in omega (arith, within, many)))
 
       by : EachOnce posting.items → Decided (TooManySends x P e)
       by o = at o (less MOST_SENT (length o.items))
@@ -110,17 +122,25 @@ module _ (x : Exchange) (known : List Fact) (e : ℕ) where
   starts : (q : ℕ) → Listed (Starts q)
   starts q =
       listed_as (λ p. (at : Place) × IsPlace x at × ((Reached P e at.point × Leading q at) × (p ≡ at.point))) (Starts q)
-      (λ p h. subst (Starts q) (sym h.2.1) (record { at = h.0; stands = record { place = h.1; here = refl }; reached = h.2.0.0; how = h.2.0.1.0; leads = h.2.0.1.1 }))
+      (λ p h. subst (Starts q) (sym h.2.1) (record {
+        at = h.0;
+        stands = record { place = h.1; here = refl };
+        reached = h.2.0.0;
+        how = h.2.0.1.0;
+        leads = h.2.0.1.1;
+      }))
       (λ p g. (g.at, g.stands.place, ((subst (Reached P e) (sym g.stands.here) g.reached, (g.how, g.leads)), sym g.stands.here)))
       (listed_then (IsPlace x) (λ at p. (Reached P e at.point × Leading q at) × (p ≡ at.point)) (places x)
-      (λ at is. listed_when (Reached P e at.point × Leading q at) (λ p. p ≡ at.point) (both (is_reached known e at.point) (leading q at)) (λ h. listed_one at.point)))
+      (λ at is. listed_when (Reached P e at.point × Leading q at) (λ p. p ≡ at.point)
+      (both (is_reached known e at.point) (leading q at)) (λ h. listed_one at.point)))
 
   -- the points from which one or more flows do
   abbrev Rule : ℕ → List ℕ → ℕ → Type 0
   Rule q before p = Starts q p ⊎ ((m : ℕ) × Contains before m × Starts m p)
 
   rules : (q : ℕ) (before : List ℕ) → Listed (Rule q before)
-  rules q before = listed_or (Starts q) (λ p. (m : ℕ) × Contains before m × Starts m p) (starts q) (listed_then (λ m. Contains before m) Starts (listed_in before) (λ m c. starts m))
+  rules q before = listed_or (Starts q) (λ p. (m : ℕ) × Contains before m × Starts m p) (starts q)
+      (listed_then (λ m. Contains before m) Starts (listed_in before) (λ m c. starts m))
 
   abbrev IsPoint : ℕ → Type 0
   IsPoint p = (at : Place) × IsPlace x at × (p ≡ at.point)

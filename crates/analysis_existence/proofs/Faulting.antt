@@ -1,5 +1,6 @@
 -- Whether a statement may fault is decided.
-use Rattle.std.proofs.Common.{◌≡◌, ◌≢◌, ◌⊎◌, inl, inr, ℕ, ◌+◌, ◌<◌, ◌≤◌, ◌^◌, true, List, Option, None, Some, Contains, slice_get, refl, sym, subst}
+use Rattle.std.proofs.Common.{◌≡◌, ◌≢◌, ◌⊎◌, inl, inr, ℕ, ◌+◌, ◌<◌, ◌≤◌, ◌^◌, true, List, Option}
+use Rattle.std.proofs.Common.{None, Some, Contains, slice_get, refl, sym, subst}
 use Rattle.plex_limits.specs.declared.limits.TheConstants.{MOST_CALLERS}
 use Rattle.exchange_model.specs.declared.exchange.Exchange.{Exchange}
 use Rattle.exchange_model.specs.declared.expr.Expr.{Expr}
@@ -24,8 +25,14 @@ use Rattle.flow_points.specs.Facts.{Facts, Reached, SourceGives}
 use Rattle.flow_points.specs.Places.{IsPlace}
 use Rattle.flow_points.specs.Sources.{expr_source}
 use Rattle.entry_summary.specs.Accesses.{IsForlopp}
-use Rattle.entry_summary.specs.Faults.{FaultsAt, ValueMayBe, PointsAt, PutsIn, SomeFaults, SourceMayBe, divides_by_zero, has_caller, holder_source, in_field, in_variable, may_divide_by_zero, no_caller, no_receiver, no_record, not_own, other_caller, seizes, too_deep, too_wide}
-use Rattle.finite_facts.proofs.Finite.{Decided, at_most, below, both, certain, decided_as, either, impossible, less, listed_in, listed_one, no, refuted, same_number, some_case, truth, yes}
+use Rattle.entry_summary.specs.Faults.{FaultsAt, ValueMayBe, PointsAt, PutsIn, SomeFaults}
+use Rattle.entry_summary.specs.Faults.{SourceMayBe, divides_by_zero, has_caller, holder_source}
+use Rattle.entry_summary.specs.Faults.{in_field, in_variable, may_divide_by_zero, no_caller}
+use Rattle.entry_summary.specs.Faults.{no_receiver, no_record, not_own, other_caller, seizes}
+use Rattle.entry_summary.specs.Faults.{too_deep, too_wide}
+use Rattle.finite_facts.proofs.Finite.{Decided, at_most, below, both, certain, decided_as, either}
+use Rattle.finite_facts.proofs.Finite.{impossible, less, listed_in, listed_one, no, refuted}
+use Rattle.finite_facts.proofs.Finite.{same_number, some_case, truth, yes}
 use Rattle.finite_facts.proofs.Giving.{is_reached, source_values}
 use Rattle.analysis_existence.proofs.Naming.{Pointer, file_at, holder_in, is_forlopp, pointers}
 use Rattle.finite_facts.proofs.Places.{places}
@@ -63,7 +70,10 @@ module _ (x : Exchange) (known : List Fact) (e : ℕ) where
   by_pointer : (p : ℕ) (l : Layer) → Decided (ByPointer p l)
   by_pointer p l =
       some_case (λ (q : Pointer). PointsAt l q.0 q.1) (λ q. Past p q ⊎ IsForlopp x q.0) (pointers l)
-      (λ q points. either (some_case (λ placed. IsFileAt x q.0 placed) (λ placed. Number p (Of (Temp q.1)) (λ n. placed.file.size ≤ n)) (file_at x q.0) (λ placed there. number p (Of (Temp q.1)) (λ n. placed.file.size ≤ n) (at_most placed.file.size))) (is_forlopp x q.0))
+      (λ q points. either (some_case (λ placed. IsFileAt x q.0 placed)
+      (λ placed. Number p (Of (Temp q.1)) (λ n. placed.file.size ≤ n)) (file_at x q.0)
+      (λ placed there. number p (Of (Temp q.1)) (λ n. placed.file.size ≤ n) (at_most placed.file.size)))
+      (is_forlopp x q.0))
 
   -- by a held reference
   abbrev ByHolder : ℕ → Layer → Type 0
@@ -118,10 +128,14 @@ module _ (x : Exchange) (known : List Fact) (e : ℕ) where
 
   by_layer : (b p : ℕ) (l : Layer) → Decided (ByLayer b p l)
   by_layer b p (stmt.SetVariable variable value) = wide p value (variable_width x b variable)
-  by_layer b p (stmt.SetField file field pointer value) = some_case (λ placed. IsFileAt x file placed) (λ placed. Wide p value (field_width placed field)) (file_at x file) (λ placed there. wide p value (field_width placed field))
+  by_layer b p (stmt.SetField file field pointer value) = some_case (λ placed. IsFileAt x file placed)
+      (λ placed. Wide p value (field_width placed field)) (file_at x file)
+      (λ placed there. wide p value (field_width placed field))
   by_layer b p (stmt.Seize temp file label) = certain tt
-  by_layer b p (stmt.Return answer values) = either (number p (Of Depth) (λ n. n ≡ 0) (λ n. same_number n 0)) (number p (Of Awaits) (λ n. n ≢ answer + 1) (λ n. refuted (same_number n (answer + 1))))
-  by_layer b p (stmt.Send signal to values fresh) = both (is_combined (slice_get x.signals signal)) (number p (Of Depth) (λ n. n ≡ MOST_CALLERS) (λ n. same_number n MOST_CALLERS))
+  by_layer b p (stmt.Return answer values) = either (number p (Of Depth) (λ n. n ≡ 0) (λ n. same_number n 0))
+      (number p (Of Awaits) (λ n. n ≢ answer + 1) (λ n. refuted (same_number n (answer + 1))))
+  by_layer b p (stmt.Send signal to values fresh) = both (is_combined (slice_get x.signals signal))
+      (number p (Of Depth) (λ n. n ≡ MOST_CALLERS) (λ n. same_number n MOST_CALLERS))
   by_layer b p _ = impossible
 
   -- by one of these
@@ -131,7 +145,8 @@ module _ (x : Exchange) (known : List Fact) (e : ℕ) where
   abbrev At : ℕ → ℕ → Layer → Type 0
   At b p l = FaultsAt x P e b p l
 
-  wide_to : (b p : ℕ) (l : Layer) (value : Expr) (width n : ℕ) → PutsIn x b l value width → SourceMayBe P e p (expr_source value) n → 2 ^ width ≤ n → ByLayer b p l
+  wide_to : (b p : ℕ) (l : Layer) (value : Expr) (width n : ℕ) → PutsIn x b l value width
+      → SourceMayBe P e p (expr_source value) n → 2 ^ width ≤ n → ByLayer b p l
   wide_to b p _ _ _ n (in_variable variable value) may past = (n, may, past)
   wide_to b p _ _ _ n (in_field file field pointer value placed there) may past = (placed, there, (n, may, past))
 
@@ -148,7 +163,8 @@ module _ (x : Exchange) (known : List Fact) (e : ℕ) where
   by_to b p _ (too_deep signal to values fresh name count answer is may) = inr (inr (inr (subst IsCombined (sym is) tt, (MOST_CALLERS, may, refl))))
 
   layer_from : (b p : ℕ) (l : Layer) → ByLayer b p l → At b p l
-  layer_from b p (stmt.SetVariable variable value) h = too_wide (stmt.SetVariable variable value) value (variable_width x b variable) h.0 (in_variable variable value) h.1 h.2
+  layer_from b p (stmt.SetVariable variable value) h = too_wide (stmt.SetVariable variable value) value
+      (variable_width x b variable) h.0 (in_variable variable value) h.1 h.2
   layer_from b p (stmt.SetField file field pointer value) h =
       too_wide (stmt.SetField file field pointer value) value (field_width h.0 field) h.2.0 (in_field file field pointer value h.0 h.1) h.2.1 h.2.2
   layer_from b p (stmt.Seize temp file label) h = seizes temp file label
@@ -157,7 +173,8 @@ module _ (x : Exchange) (known : List Fact) (e : ℕ) where
   layer_from b p (stmt.Send signal to values fresh) h = by (slice_get x.signals signal) refl h.0
     where
       by : (o : Option SignalKind) → slice_get x.signals signal ≡ o → IsCombined o → At b p (stmt.Send signal to values fresh)
-      by (Some (Combined name count answer)) there is = too_deep signal to values fresh name count answer there (subst (SourceMayBe P e p (Of Depth)) h.1.2 h.1.1)
+      by (Some (Combined name count answer)) there is = too_deep signal to values fresh name count answer there
+          (subst (SourceMayBe P e p (Of Depth)) h.1.2 h.1.1)
       by _ there is = absurd is
   layer_from b p _ h = absurd h
 
@@ -173,10 +190,20 @@ module _ (x : Exchange) (known : List Fact) (e : ℕ) where
   by_from b p l (inr (inr (inr h))) = layer_from b p l h
 
   faults_at : (b p : ℕ) (l : Layer) → Decided (At b p l)
-  faults_at b p l = decided_as (by_from b p l) (by_to b p l) (either (either (by_pointer p l) (by_holder p l)) (either (by_division l) (either (by_end p l) (by_layer b p l))))
+  faults_at b p l = decided_as (by_from b p l) (by_to b p l)
+      (either (either (by_pointer p l) (by_holder p l)) (either (by_division l) (either (by_end p l) (by_layer b p l))))
 
   pub some_faults : Decided (SomeFaults x P e)
   some_faults =
       decided_as (λ h. record { at = h.0; point = h.0.point; stands = record { place = h.1; here = refl }; reached = h.2.0; faults = h.2.1 })
-      (λ s. (s.at, s.stands.place, (subst (Reached P e) (sym s.stands.here) s.reached, subst (λ p. FaultsAt x P e s.at.block p s.at.layer) (sym s.stands.here) s.faults)))
-      (some_case (IsPlace x) (λ at. Reached P e at.point × At at.block at.point at.layer) (places x) (λ at is. both (is_reached known e at.point) (faults_at at.block at.point at.layer)))
+      (λ s. (
+        s.at,
+        s.stands.place,
+        (
+          subst (Reached P e) (sym s.stands.here) s.reached,
+          subst
+              (λ p. FaultsAt x P e s.at.block p s.at.layer) (sym s.stands.here) s.faults,
+        ),
+      ))
+      (some_case (IsPlace x) (λ at. Reached P e at.point × At at.block at.point at.layer) (places x)
+      (λ at is. both (is_reached known e at.point) (faults_at at.block at.point at.layer)))

@@ -1,5 +1,6 @@
 -- What a statement names, as lists.
-use Rattle.std.proofs.Common.{◌≡◌, ◌⊎◌, inl, inr, ℕ, true, false, Option, None, Some, Contains, slice_get, refl, sym, ap, subst}
+use Rattle.std.proofs.Common.{◌≡◌, ◌⊎◌, inl, inr, ℕ, true, false, Option, None, Some, Contains}
+use Rattle.std.proofs.Common.{slice_get, refl, sym, ap, subst}
 use Rattle.exchange_model.specs.declared.exchange.Exchange.{Exchange}
 use Rattle.exchange_model.specs.declared.expr.Expr.{Expr}
 use Rattle.exchange_model.specs.declared.stmt.Holder.{Holder}
@@ -13,7 +14,9 @@ use Rattle.source_meaning.specs.Deeds.{IsFileAt, receiver_in}
 use Rattle.source_meaning.specs.Named.{Layer, Named, NamedField, NamedVariable, named_in}
 use Rattle.entry_summary.specs.Accesses.{IsForlopp, IsPlain, NamesField, NamesVariable}
 use Rattle.entry_summary.specs.Faults.{PointsAt, frees, reads, writes}
-use Rattle.finite_facts.proofs.Finite.{Decided, Listed, decided_as, falsehood, listed_as, listed_in, listed_none, listed_one, listed_or, listed_some, listed_then, some_case, truth}
+use Rattle.finite_facts.proofs.Finite.{Decided, Listed, decided_as, falsehood, listed_as, listed_in}
+use Rattle.finite_facts.proofs.Finite.{listed_none, listed_one, listed_or, listed_some, listed_then}
+use Rattle.finite_facts.proofs.Finite.{some_case, truth}
 
 -- what the expressions of a statement name
 
@@ -53,7 +56,8 @@ held_is h k e = cc
 held_in : (o : Option Receiver) → Listed (λ (h : Holder). o ≡ Some (receiver.Held h))
 held_in None = listed_none _ (λ h e. cc)
 held_in (Some (receiver.Block b)) = listed_none _ (λ h e. cc)
-held_in (Some (receiver.Held k)) = listed_as (λ h. h ≡ k) (λ h. Some (receiver.Held k) ≡ Some (receiver.Held h)) (λ h e. ap (λ j. Some (receiver.Held j)) (sym e)) (λ h e. held_is k h e) (listed_one k)
+held_in (Some (receiver.Held k)) = listed_as (λ h. h ≡ k) (λ h. Some (receiver.Held k) ≡ Some (receiver.Held h))
+    (λ h e. ap (λ j. Some (receiver.Held j)) (sym e)) (λ h e. held_is k h e) (listed_one k)
 
 pub holder_in : (l : Layer) → Listed (λ (h : Holder). receiver_in l ≡ Some (receiver.Held h))
 holder_in l = held_in (receiver_in l)
@@ -86,8 +90,11 @@ APointer l q = ((n : Named) × Names l n × NamedPointer n q) ⊎ OwnPointer l q
 
 points_from : (l : Layer) (q : Pointer) → APointer l q → PointsAt l q.0 q.1
 points_from l q (inl (NamedVariable v, h, is)) = absurd is
-points_from l q (inl (NamedField file field pointer, h, is)) = subst (λ (r : Pointer). PointsAt l r.0 r.1) (sym is) (reads l file field pointer (names_field l file field pointer h))
-points_from (stmt.SetField file field pointer value) q (inr is) = subst (λ (r : Pointer). PointsAt (stmt.SetField file field pointer value) r.0 r.1) (sym is) (writes file field pointer value)
+points_from l q (inl (NamedField file field pointer, h, is)) = subst (λ (r : Pointer). PointsAt l r.0 r.1) (sym is)
+    (reads l file field pointer (names_field l file field pointer h))
+points_from (stmt.SetField file field pointer value) q (inr is) = subst
+    (λ (r : Pointer). PointsAt (stmt.SetField file field pointer value) r.0 r.1) (sym is)
+    (writes file field pointer value)
 points_from (stmt.Free temp file) q (inr is) = subst (λ (r : Pointer). PointsAt (stmt.Free temp file) r.0 r.1) (sym is) (frees temp file)
 points_from _ q (inr is) = absurd is
 
@@ -99,4 +106,5 @@ points_to _ _ _ (frees temp file) = inr refl
 pub pointers : (l : Layer) → Listed (λ (q : Pointer). PointsAt l q.0 q.1)
 pointers l =
     listed_as (APointer l) (λ q. PointsAt l q.0 q.1) (points_from l) (λ q h. points_to l q.0 q.1 h)
-    (listed_or (λ q. (n : Named) × Names l n × NamedPointer n q) (OwnPointer l) (listed_then (Names l) NamedPointer (names l) (λ n h. named_pointer n)) (own_pointer l))
+    (listed_or (λ q. (n : Named) × Names l n × NamedPointer n q) (OwnPointer l)
+    (listed_then (Names l) NamedPointer (names l) (λ n h. named_pointer n)) (own_pointer l))

@@ -1,5 +1,7 @@
 -- The text of an analysis comes.
-use Rattle.std.proofs.Common.{◌≡◌, ◌⊎◌, inl, inr, ℕ, zero, suc, ◌+◌, ◌<◌, true, List, [], ◌∷◌, ◌++◌, length, map, Option, None, Some, Contains, slice_get, refl, sym, ap, subst, arith, codes}
+use Rattle.std.proofs.Common.{◌≡◌, ◌⊎◌, inl, inr, ℕ, zero, suc, ◌+◌, ◌<◌, true, List, [], ◌∷◌, ◌++◌}
+use Rattle.std.proofs.Common.{length, map, Option, None, Some, Contains, slice_get, refl, sym, ap}
+use Rattle.std.proofs.Common.{subst, arith, codes}
 use Rattle.plex_num.proofs.Members.{first_is, first_or_later, later_is, none_in}
 use Rattle.plex_num.specs.declared.level.Level.{Level}
 use Rattle.exchange_model.specs.declared.exchange.Exchange.{Exchange}
@@ -10,20 +12,24 @@ use Rattle.pair_tests.specs.declared.pair.Test.{Test}
 use Rattle.pair_tests.specs.declared.pair.Test.TheVariants as test
 use Rattle.pair_tests.specs.contracts.pair.TestOrd.TheImpl.Laws as order_laws
 use Rattle.pair_tests.specs.Asked.{Asked, AskedRelease, AskedSeizing, asked_of, release_test}
-use Rattle.pair_tests.specs.Clashes.{Clashes, ClashesAbove, IsLeastConflict, IsSooner, above_of, clash_of}
+use Rattle.pair_tests.specs.Clashes.{Clashes, ClashesAbove, IsLeastConflict, IsSooner, above_of}
+use Rattle.pair_tests.specs.Clashes.{clash_of}
 use Rattle.pair_tests.specs.Orders.{Precedes, test_order}
 use Rattle.pair_tests.specs.Pairs.{IsConflict, IsTest}
 use Rattle.pair_tests.proofs.Conflicting.{conflict_cases, of_accesses, of_level}
 use Rattle.pair_tests.proofs.Leasts.{least_joined, least_none, least_one, least_same}
-use Rattle.pair_tests.proofs.Preceding.{After, Before, Ranked, Same, none_before_itself, precedes_trans, ranked}
+use Rattle.pair_tests.proofs.Preceding.{After, Before, Ranked, Same, none_before_itself}
+use Rattle.pair_tests.proofs.Preceding.{precedes_trans, ranked}
 use Rattle.pair_tests.proofs.Tested.{of_asked, of_release, test_cases, tests_equal}
 use Rattle.analysis_text.specs.declared.names.Names.{Names}
 use Rattle.analysis_text.specs.Analysis.{IsAnalysis}
 use Rattle.analysis_text.specs.Lines.{entries_text, if_line, never_line, text_of, written}
 use Rattle.analysis_text.specs.Names.{names_of}
-use Rattle.analysis_text.specs.Pairs.{ArePairs, AreTests, GainsText, InTurn, IsPairText, IsTextOfFirst, IsTextWith, never, tested}
+use Rattle.analysis_text.specs.Pairs.{ArePairs, AreTests, GainsText, InTurn, IsPairText}
+use Rattle.analysis_text.specs.Pairs.{IsTextOfFirst, IsTextWith, never, tested}
 use Rattle.analysis_text.proofs.Turns.{turns_begin, turns_more}
-use Rattle.finite_facts.proofs.Finite.{Listed, listed_as, listed_in, listed_one, listed_or, listed_some, listed_then, listed_when, truth}
+use Rattle.finite_facts.proofs.Finite.{Listed, listed_as, listed_in, listed_one, listed_or}
+use Rattle.finite_facts.proofs.Finite.{listed_some, listed_then, listed_when, truth}
 use Rattle.finite_facts.proofs.Rising.{in_order}
 
 -- the first of some conflicts
@@ -54,8 +60,12 @@ least_of (c ∷ cs) = by (least_of cs)
 
     by : Least (λ d. Contains cs d) → Least (λ d. Contains (c ∷ cs) d)
     by more =
-        let s = sooner (Some c) more.0 in
-        (s.0, least_joined (λ d. Some c ≡ Some d) (λ d. Contains cs d) (λ d. Contains (c ∷ cs) d) first (λ d h. later_is c d cs h) (λ d h. cases d (first_or_later c d cs h)) (Some c) more.0 s.0 (least_one (Some c)) more.1 s.1)
+        let s = sooner (Some c) more.0 in (
+          s.0,
+          least_joined (λ d. Some c ≡ Some d) (λ d. Contains cs d) (λ d. Contains (c ∷ cs) d) first
+              (λ d h. later_is c d cs h) (λ d h. cases d (first_or_later c d cs h)) (Some c) more.0 s.0
+              (least_one (Some c)) more.1 s.1,
+        )
 
 module _ (first later : Summary) where
   -- conflicts
@@ -68,13 +78,16 @@ module _ (first later : Summary) where
       listed_as (λ c. (a : Access) × Contains first.accesses a × OneClash a c) (Clashes first.accesses later.accesses)
       (λ c h. record { one = h.0; there = h.1; clash = record { other = h.2.0; there = h.2.1; clash = h.2.2 } })
       (λ c h. (h.one, h.there, (h.clash.other, h.clash.there, h.clash.clash)))
-      (listed_then (λ a. Contains first.accesses a) OneClash (listed_in first.accesses) (λ a at. listed_then (λ b. Contains later.accesses b) (λ b c. clash_of a b ≡ Some c) (listed_in later.accesses) (λ b there. listed_some (clash_of a b))))
+      (listed_then (λ a. Contains first.accesses a) OneClash (listed_in first.accesses)
+      (λ a at. listed_then (λ b. Contains later.accesses b) (λ b c. clash_of a b ≡ Some c)
+      (listed_in later.accesses) (λ b there. listed_some (clash_of a b))))
 
   above : Listed (ClashesAbove first.levels later.level)
   above =
       listed_as (λ c. (l : Level) × Contains first.levels l × (above_of l later.level ≡ Some c)) (ClashesAbove first.levels later.level)
       (λ c h. record { level = h.0; there = h.1; clash = h.2 }) (λ c h. (h.level, h.there, h.clash))
-      (listed_then (λ l. Contains first.levels l) (λ l c. above_of l later.level ≡ Some c) (listed_in first.levels) (λ l at. listed_some (above_of l later.level)))
+      (listed_then (λ l. Contains first.levels l) (λ l c. above_of l later.level ≡ Some c) (listed_in first.levels)
+      (λ l at. listed_some (above_of l later.level)))
 
   conflict_from : (c : Conflict) → Clashes first.accesses later.accesses c ⊎ ClashesAbove first.levels later.level c → IsConflict first later c
   conflict_from c (inl h) = of_accesses first later c h
@@ -82,11 +95,13 @@ module _ (first later : Summary) where
 
   conflicts : Listed (IsConflict first later)
   conflicts =
-      listed_as (λ c. Clashes first.accesses later.accesses c ⊎ ClashesAbove first.levels later.level c) (IsConflict first later) conflict_from (conflict_cases first later)
+      listed_as (λ c. Clashes first.accesses later.accesses c ⊎ ClashesAbove first.levels later.level c)
+      (IsConflict first later) conflict_from (conflict_cases first later)
       (listed_or (Clashes first.accesses later.accesses) (ClashesAbove first.levels later.level) clashes above)
 
   pub first_conflict : Least (IsConflict first later)
-  first_conflict = (let l = conflicts in let least = least_of l.items in (least.0, least_same (λ c. Contains l.items c) (IsConflict first later) l.each l.all least.0 least.1))
+  first_conflict = (let l = conflicts in let least = least_of l.items in
+      (least.0, least_same (λ c. Contains l.items c) (IsConflict first later) l.each l.all least.0 least.1))
 
   -- tests
 
@@ -98,7 +113,9 @@ module _ (first later : Summary) where
       listed_as (λ t. (a : Access) × Contains first.accesses a × OneTest a t) (Asked first.accesses later.accesses)
       (λ t h. record { one = h.0; there = h.1; asks = record { other = h.2.0; there = h.2.1; asks = h.2.2 } })
       (λ t h. (h.one, h.there, (h.asks.other, h.asks.there, h.asks.asks)))
-      (listed_then (λ a. Contains first.accesses a) OneTest (listed_in first.accesses) (λ a at. listed_then (λ b. Contains later.accesses b) (λ b t. asked_of a b ≡ Some t) (listed_in later.accesses) (λ b there. listed_some (asked_of a b))))
+      (listed_then (λ a. Contains first.accesses a) OneTest (listed_in first.accesses)
+      (λ a at. listed_then (λ b. Contains later.accesses b) (λ b t. asked_of a b ≡ Some t)
+      (listed_in later.accesses) (λ b there. listed_some (asked_of a b))))
 
   seizing : Listed (AskedSeizing later.accesses)
   seizing =
@@ -110,7 +127,9 @@ module _ (first later : Summary) where
   release =
       listed_as (λ t. (first.fault ≡ true) × ((t ≡ test.InForlopp) ⊎ AskedSeizing later.accesses t)) (AskedRelease first.fault later.accesses)
       (λ t h. record { fault_may = h.0; asks = h.1 }) (λ t h. (h.fault_may, h.asks))
-      (listed_when (first.fault ≡ true) (λ t. (t ≡ test.InForlopp) ⊎ AskedSeizing later.accesses t) (truth first.fault) (λ may. listed_or (λ t. t ≡ test.InForlopp) (AskedSeizing later.accesses) (listed_one test.InForlopp) seizing))
+      (listed_when (first.fault ≡ true) (λ t. (t ≡ test.InForlopp) ⊎ AskedSeizing later.accesses t) (truth first.fault)
+      (λ may. listed_or (λ t. t ≡ test.InForlopp) (AskedSeizing later.accesses) (listed_one test.InForlopp)
+      seizing))
 
   test_from : (t : Test) → Asked first.accesses later.accesses t ⊎ AskedRelease first.fault later.accesses t → IsTest first later t
   test_from t (inl h) = of_asked first later t h
@@ -122,7 +141,8 @@ module _ (first later : Summary) where
       (listed_or (Asked first.accesses later.accesses) (AskedRelease first.fault later.accesses) asked release)
 
   pub tests : (ts : List Test) × AreTests first later ts
-  tests = (let r = in_order test_order order_laws.total-law tests_equal (IsTest first later) all_tests in (r.listed.items, record { exact = λ t. (r.listed.each t, r.listed.all t); rising = r.rising }))
+  tests = (let r = in_order test_order order_laws.total-law tests_equal (IsTest first later) all_tests in
+      (r.listed.items, record { exact = λ t. (r.listed.each t, r.listed.all t); rising = r.rising }))
 
   -- the text of the two
   pair_text : (names : Names) (i j : ℕ) → (text : List ℕ) × IsPairText names i j first later text
@@ -143,8 +163,12 @@ in_turn P n each = (let t = upto n (λ k lt. each k lt) in (t.1.added, t.1.tells
       where
         by : (text : List ℕ) × GainsText (InTurn P m) [] text → (text : List ℕ) × P m text → (text : List ℕ) × GainsText (InTurn P (suc m)) [] text
         by before here =
-            let next : m + 1 ≡ suc m = omega arith in
-            (before.0 ++ here.0, subst (λ n. GainsText (InTurn P n) [] (before.0 ++ here.0)) next (turns_more P m [] before.0 (before.0 ++ here.0) before.1 (record { added = here.0; is = refl; tells = here.1 })))
+            let next : m + 1 ≡ suc m = omega arith in (
+              before.0 ++ here.0,
+              subst (λ n. GainsText (InTurn P n) [] (before.0 ++ here.0)) next
+                  (turns_more P m [] before.0 (before.0 ++ here.0) before.1
+                  (record { added = here.0; is = refl; tells = here.1 })),
+            )
 
 -- what stands at a place
 item : (ss : List Summary) (i : ℕ) → i < length ss → (s : Summary) × (slice_get ss i ≡ Some s)
@@ -160,7 +184,8 @@ pairs_text names ss = in_turn (IsTextOfFirst names ss) (length ss) (λ i lt. of_
     with_later i j one other = (let t = pair_text one other.0 names i j in (t.0, record { later = other.0; there = other.1; tells = t.1 }))
 
     of_first : (i : ℕ) → (s : Summary) × (slice_get ss i ≡ Some s) → (text : List ℕ) × IsTextOfFirst names ss i text
-    of_first i one = (let t = in_turn (IsTextWith names ss i one.0) (length ss) (λ j lt. with_later i j one.0 (item ss j lt)) in (t.0, record { first = one.0; there = one.1; tells = t.1 }))
+    of_first i one = (let t = in_turn (IsTextWith names ss i one.0) (length ss)
+        (λ j lt. with_later i j one.0 (item ss j lt)) in (t.0, record { first = one.0; there = one.1; tells = t.1 }))
 
 -- the text of the analysis
 pub analysis : (x : Exchange) (ss : List Summary) → (text : List ℕ) × IsAnalysis x ss text

@@ -1,5 +1,7 @@
 -- A summary of each entry comes.
-use Rattle.std.proofs.Common.{◌≡◌, ◌↔◌, ℕ, ◌+◌, zero, suc, Bool, true, false, true≢false, List, [], ◌∷◌, length, Some, Contains, slice_get, refl, sym, subst, arith, rules}
+use Rattle.std.proofs.Common.{◌≡◌, ◌↔◌, ℕ, ◌+◌, zero, suc, Bool, true, false, true≢false, List, []}
+use Rattle.std.proofs.Common.{◌∷◌, length, Some, Contains, slice_get, refl, sym, subst, arith}
+use Rattle.std.proofs.Common.{rules}
 use Rattle.std.specs.Cmp.{IsTotalOrder}
 use Rattle.std.specs.declared.cmp.Ordering.{Ordering}
 use Rattle.std.specs.declared.cmp.Ordering.TheVariants.{Equal}
@@ -96,11 +98,18 @@ summaries_from x a (suc n) = by (least_summary x a) (summaries_from x (a + 1) n)
     by one more = record { items = one.0 ∷ more.items; count = (let long = more.count in omega (arith, long)); each = each }
       where
         each : (k : ℕ) (s : Summary) → slice_get (one.0 ∷ more.items) k ≡ Some s → IsSummary x (IsLeast x) (a + k) s
-        each zero s there = (let at : a ≡ a + 0 = omega arith in subst (λ m. IsSummary x (IsLeast x) m s) at (subst (IsSummary x (IsLeast x) a) (same_Some one.0 s there) one.1))
+        each zero s there = (let at : a ≡ a + 0 = omega arith in subst (λ m. IsSummary x (IsLeast x) m s) at
+            (subst (IsSummary x (IsLeast x) a) (same_Some one.0 s there) one.1))
         each (suc k) s there = (let at : a + 1 + k ≡ a + suc k = omega arith in subst (λ m. IsSummary x (IsLeast x) m s) at (more.each k s there))
 
 -- the summaries of an exchange
 pub all_summaries : (x : Exchange) → (ss : List Summary) × AreSummaries x ss
 all_summaries x =
-    let all = summaries_from x 0 (length x.entries) in
-    (all.items, record { each_entry = all.count; is = λ e s there. (let at : 0 + e ≡ e = omega arith in subst (λ m. IsSummary x (IsLeast x) m s) at (all.each e s there)) })
+    let all = summaries_from x 0 (length x.entries) in (
+      all.items,
+      record {
+        each_entry = all.count;
+        is = λ e s there. (let at : 0 + e ≡ e = omega arith in subst (λ m. IsSummary x (IsLeast x) m s) at
+            (all.each e s there));
+      },
+    )

@@ -8,7 +8,8 @@ ghost use Rattle.entry_summary.specs.Summaries.{IsSummary};
 ghost use Rattle.certificate_meaning.specs.Summaries.{AreSummaries};
 ghost use Rattle.analysis_text.specs.Analysis.{IsAnalysis};
 
-/// Facts that are a list say of the jobs of each entry what a summary says, and an exchange has its summaries.
+/// Facts that are a list say of the jobs of each entry what a summary says, and an exchange has its
+/// summaries.
 pub fn summaries_come()
     ensures entry { (x : Exchange) (facts : List Fact) (e : ℕ)
         → (s : Summary) × IsSummary x (Contains facts) e s }

@@ -12,7 +12,8 @@ use Rattle.analysis_laws.proofs.Rising.{rising_once, same_sides}
 pub certificate_once : (x : Exchange) (c d : Certificate) → IsCertificate x c → IsCertificate x d → c ≡ d
 certificate_once x c d one other =
     let shape : c.shape ≡ d.shape = same_shape x c.shape d.shape one.shape other.shape in
-    let facts : c.facts ≡ d.facts = rising_once fact_order fact_laws.total-law c.facts d.facts one.rising other.rising (λ f. same_sides (one.exact f) (other.exact f)) in
+    let facts : c.facts ≡ d.facts = rising_once fact_order fact_laws.total-law c.facts d.facts one.rising other.rising
+    (λ f. same_sides (one.exact f) (other.exact f)) in
     λ i. record { shape = shape i; facts = facts i }
 
 pub certificate_text_once : (x : Exchange) (t u : List ℕ) → IsTextOfCertificate x t → IsTextOfCertificate x u → t ≡ u

@@ -9,8 +9,10 @@ use Rattle.certificate_meaning.specs.Verdicts.{Accepts}
 use Rattle.analysis_laws.proofs.Rising.{same_at_each}
 use Rattle.analysis_laws.proofs.Summing.{summary_once}
 
-same_summaries : (x : Exchange) (facts : List Fact) (ss ts : List Summary) → AreSummariesBy x (Contains facts) ss → AreSummariesBy x (Contains facts) ts → ss ≡ ts
-same_summaries x facts ss ts one other = same_at_each ss ts (one.each_entry ∙ sym other.each_entry) (λ e s t here there. summary_once x (Contains facts) e s t (one.is e s here) (other.is e t there))
+same_summaries : (x : Exchange) (facts : List Fact) (ss ts : List Summary) → AreSummariesBy x (Contains facts) ss
+    → AreSummariesBy x (Contains facts) ts → ss ≡ ts
+same_summaries x facts ss ts one other = same_at_each ss ts (one.each_entry ∙ sym other.each_entry)
+    (λ e s t here there. summary_once x (Contains facts) e s t (one.is e s here) (other.is e t there))
 
 pub kept_once : (x : Exchange) (c : Certificate) (k l : KeptSummaries) → Accepts x c k → Accepts x c l → k ≡ l
 kept_once x c k l one other = λ i. record { summaries = same_summaries x c.facts k.summaries l.summaries one.by_facts other.by_facts i }

@@ -1,5 +1,6 @@
 -- One reason for which a certificate is refused.
-use Rattle.std.proofs.Common.{◌≡◌, ◌≢◌, List, [], ◌∷◌, ◌++◌, All, Contains, refl, sym, ap, ◌∙◌, subst}
+use Rattle.std.proofs.Common.{◌≡◌, ◌≢◌, List, [], ◌∷◌, ◌++◌, All, Contains, refl, sym, ap, ◌∙◌}
+use Rattle.std.proofs.Common.{subst}
 use Rattle.std.specs.declared.cmp.Ordering.{Ordering}
 use Rattle.std.specs.declared.cmp.Ordering.TheVariants.{Less, Equal, Greater}
 use Rattle.std.specs.Ordering.{ordering_reverse}
@@ -16,13 +17,16 @@ use Rattle.checked.specs.Belonging.{IsOfExchange}
 use Rattle.certificate_meaning.specs.Faults.{IsFirstStrange, IsLeastIn}
 use Rattle.certificate_meaning.proofs.Shaping.{same_shape}
 use Rattle.certificate_meaning.specs.declared.fault.CertFault.{CertFault}
-use Rattle.certificate_meaning.specs.declared.fault.CertFault.TheVariants.{WrongExchange, StrangeFact, MissingFact, Memory}
+use Rattle.certificate_meaning.specs.declared.fault.CertFault.TheVariants.{WrongExchange}
+use Rattle.certificate_meaning.specs.declared.fault.CertFault.TheVariants.{StrangeFact, MissingFact}
+use Rattle.certificate_meaning.specs.declared.fault.CertFault.TheVariants.{Memory}
 use Rattle.certificate_meaning.specs.Verdicts.{Refuses}
 
 -- the first strange fact
 
 module _ (P : Fact → Type 0) where
-  first_once : (before others after rest : List Fact) (f g : Fact) → before ++ f ∷ after ≡ others ++ g ∷ rest → All P before → All P others → (P f → ⊥) → (P g → ⊥) → f ≡ g
+  first_once : (before others after rest : List Fact) (f g : Fact) → before ++ f ∷ after ≡ others ++ g ∷ rest
+      → All P before → All P others → (P f → ⊥) → (P g → ⊥) → f ≡ g
   first_once [] [] after rest f g same all also not_f not_g = cc
   first_once [] (h ∷ others) after rest f g same all also not_f not_g = let is : f ≡ h = cc in absurd (not_f (subst P (sym is) (All-head P h others also)))
   first_once (h ∷ before) [] after rest f g same all also not_f not_g = let is : h ≡ g = cc in absurd (not_g (subst P is (All-head P h before all)))
@@ -31,11 +35,14 @@ module _ (P : Fact → Type 0) where
       first_once before others after rest f g tails (All-tail P h before all) (All-tail P k others also) not_f not_g
 
 strange_once : (x : Exchange) (facts : List Fact) (f g : Fact) → IsFirstStrange x facts f → IsFirstStrange x facts g → f ≡ g
-strange_once x facts f g one other = first_once (IsOfExchange x) one.before other.before one.after other.after f g (sym one.so ∙ other.so) one.others other.others one.strange other.strange
+strange_once x facts f g one other = first_once (IsOfExchange x) one.before other.before one.after other.after f g
+    (sym one.so ∙ other.so) one.others other.others one.strange other.strange
 
 not_all_own : (x : Exchange) (facts : List Fact) (f : Fact) → IsFirstStrange x facts f → All (IsOfExchange x) facts → ⊥
 not_all_own x facts f first all =
-    first.strange (All-contains (IsOfExchange x) facts f all (subst (λ l. Contains l f) (sym first.so) (Contains-append_right first.before (f ∷ first.after) f (first_is f first.after))))
+    first.strange (All-contains (IsOfExchange x) facts f all
+    (subst (λ l. Contains l f) (sym first.so)
+    (Contains-append_right first.before (f ∷ first.after) f (first_is f first.after))))
 
 -- the least missing fact
 
@@ -65,4 +72,5 @@ refused_once x c (StrangeFact f) (StrangeFact g) here there a b = ap StrangeFact
 refused_once x c (StrangeFact f) (MissingFact g) here there a b = absurd (not_all_own x c.facts f a.first b.own)
 refused_once x c (MissingFact f) (WrongExchange u v) here there a b = absurd (b.differ a.shape)
 refused_once x c (MissingFact f) (StrangeFact g) here there a b = absurd (not_all_own x c.facts g b.first a.own)
-refused_once x c (MissingFact f) (MissingFact g) here there a b = ap MissingFact (least_once (Contains c.facts) (Gives x (Contains c.facts)) f g a.least b.least)
+refused_once x c (MissingFact f) (MissingFact g) here there a b =
+    ap MissingFact (least_once (Contains c.facts) (Gives x (Contains c.facts)) f g a.least b.least)

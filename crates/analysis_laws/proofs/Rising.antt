@@ -1,5 +1,7 @@
--- Lists that rise in one order and have the same items are the same; so are lists that have the same item at each place.
-use Rattle.std.proofs.Common.{◌≡◌, ◌↔◌, ◌⊎◌, inl, inr, ℕ, suc, Bool, true, false, List, [], ◌∷◌, length, Some, slice_get, refl, sym, ap, ◌∙◌, subst, arith}
+-- Lists that rise in one order and have the same items are the same; so are lists that have the
+-- same item at each place.
+use Rattle.std.proofs.Common.{◌≡◌, ◌↔◌, ◌⊎◌, inl, inr, ℕ, suc, Bool, true, false, List, [], ◌∷◌}
+use Rattle.std.proofs.Common.{length, Some, slice_get, refl, sym, ap, ◌∙◌, subst, arith}
 use Rattle.std.specs.Cmp.{IsTotalOrder}
 use Rattle.std.specs.List.{AllByRecursion, Contains}
 use Rattle.std.specs.List.Sorted.{IsStrictlySortedBy}
@@ -33,7 +35,8 @@ module _ {K : Type 0} (R : K → K → Ordering) (o : IsTotalOrder R) where
       by (inl is) more = subst (λ z. R x z ≡ Less) is all.0
       by (inr there) more = more there
 
-  same_first : (x y : K) (xs ys : List K) → AllByRecursion (λ z. R x z ≡ Less) xs → AllByRecursion (λ z. R y z ≡ Less) ys → Contains (y ∷ ys) x → Contains (x ∷ xs) y → x ≡ y
+  same_first : (x y : K) (xs ys : List K) → AllByRecursion (λ z. R x z ≡ Less) xs
+      → AllByRecursion (λ z. R y z ≡ Less) ys → Contains (y ∷ ys) x → Contains (x ∷ xs) y → x ≡ y
   same_first x y xs ys a b one other = by (first_or_later y x ys one) (first_or_later x y xs other)
     where
       by : (y ≡ x) ⊎ Contains ys x → (x ≡ y) ⊎ Contains xs y → x ≡ y
@@ -61,7 +64,8 @@ module _ {K : Type 0} (R : K → K → Ordering) (o : IsTotalOrder R) where
       )) in
       ap (λ z. z ∷ xs) first ∙ ap (λ zs. y ∷ zs) rest
 
-pub same_at_each : {A : Type 0} (xs ys : List A) → length xs ≡ length ys → ((i : ℕ) (a b : A) → slice_get xs i ≡ Some a → slice_get ys i ≡ Some b → a ≡ b) → xs ≡ ys
+pub same_at_each : {A : Type 0} (xs ys : List A) → length xs ≡ length ys
+    → ((i : ℕ) (a b : A) → slice_get xs i ≡ Some a → slice_get ys i ≡ Some b → a ≡ b) → xs ≡ ys
 same_at_each [] [] long each = refl
 same_at_each [] (y ∷ ys) long each = absurd (omega (arith, long))
 same_at_each (x ∷ xs) [] long each = absurd (omega (arith, long))

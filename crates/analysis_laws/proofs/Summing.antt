@@ -22,10 +22,13 @@ levels_total = record {
 pub summary_once : (x : Exchange) (facts : Facts) (e : ℕ) (s t : Summary) → IsSummary x facts e s → IsSummary x facts e t → s ≡ t
 summary_once x facts e s t one other =
     let level : s.level ≡ t.level = one.level ∙ sym other.level in
-    let accesses : s.accesses ≡ t.accesses = rising_once access_order access_laws.total-law s.accesses t.accesses s.rising t.rising (λ a. same_sides (one.accesses a) (other.accesses a)) in
-    let levels : s.levels ≡ t.levels = rising_once level_order levels_total s.levels t.levels s.levels_rising t.levels_rising (λ l. same_sides (one.levels l) (other.levels l)) in
+    let accesses : s.accesses ≡ t.accesses = rising_once access_order access_laws.total-law s.accesses t.accesses
+    s.rising t.rising (λ a. same_sides (one.accesses a) (other.accesses a)) in
+    let levels : s.levels ≡ t.levels = rising_once level_order levels_total s.levels t.levels s.levels_rising
+    t.levels_rising (λ l. same_sides (one.levels l) (other.levels l)) in
     let fault : s.fault ≡ t.fault = same_truth s.fault t.fault (same_sides one.fault other.fault) in
     same_summary s t level accesses levels fault
 
 pub all_summaries_once : (x : Exchange) (ss ts : List Summary) → AreSummaries x ss → AreSummaries x ts → ss ≡ ts
-all_summaries_once x ss ts one other = same_at_each ss ts (one.each_entry ∙ sym other.each_entry) (λ e s t here there. summary_once x (IsLeast x) e s t (one.is e s here) (other.is e t there))
+all_summaries_once x ss ts one other = same_at_each ss ts (one.each_entry ∙ sym other.each_entry)
+    (λ e s t here there. summary_once x (IsLeast x) e s t (one.is e s here) (other.is e t there))

@@ -14,7 +14,8 @@ use Rattle.analysis_text.specs.declared.names.Names.{Names}
 use Rattle.analysis_text.specs.Analysis.{IsAnalysis}
 use Rattle.analysis_text.specs.Lines.{entries_text, if_line, never_line, text_of, written}
 use Rattle.analysis_text.specs.Names.{names_of}
-use Rattle.analysis_text.specs.Pairs.{AreTests, InTurn, IsPairText, IsTextOfFirst, IsTextWith, never, tested}
+use Rattle.analysis_text.specs.Pairs.{AreTests, InTurn, IsPairText, IsTextOfFirst, IsTextWith}
+use Rattle.analysis_text.specs.Pairs.{never, tested}
 use Rattle.analysis_laws.proofs.Rising.{rising_once, same_sides}
 
 -- texts of which each is told in one way stand in turn in one way
@@ -33,9 +34,11 @@ pair_once : (names : Names) (i j : ℕ) (first later : Summary) (t u : List ℕ)
 pair_once names i j first later _ _ (never c p) (never d q) = ap (λ k. written (never_line names i j k)) (first_is_one first later c d p q)
 pair_once names i j first later _ _ (never c p) (tested tests none are) = absurd (none c p.conflict)
 pair_once names i j first later _ _ (tested tests none are) (never c p) = absurd (none c p.conflict)
-pair_once names i j first later _ _ (tested a none are) (tested b also those) = ap (λ tests. text_of (map (if_line names i j) tests)) (tests_once first later a b are those)
+pair_once names i j first later _ _ (tested a none are) (tested b also those) =
+    ap (λ tests. text_of (map (if_line names i j) tests)) (tests_once first later a b are those)
 
-with_once : (names : Names) (summaries : List Summary) (i : ℕ) (first : Summary) (j : ℕ) (t u : List ℕ) → IsTextWith names summaries i first j t → IsTextWith names summaries i first j u → t ≡ u
+with_once : (names : Names) (summaries : List Summary) (i : ℕ) (first : Summary) (j : ℕ) (t u : List ℕ)
+    → IsTextWith names summaries i first j t → IsTextWith names summaries i first j u → t ≡ u
 with_once names summaries i first j t u one other =
     let later : one.later ≡ other.later = same_Some one.later other.later (sym one.there ∙ other.there) in
     pair_once names i j first other.later t u (subst (λ l. IsPairText names i j first l t) later one.tells) other.tells
@@ -49,5 +52,6 @@ of_once names summaries i t u one other =
 pub analysis_once : (x : Exchange) (summaries : List Summary) (t u : List ℕ) → IsAnalysis x summaries t → IsAnalysis x summaries u → t ≡ u
 analysis_once x summaries t u one other =
     let names : Names = names_of x.blocks in
-    let pairs : one.pairs ≡ other.pairs = turn_once (IsTextOfFirst names summaries) (length summaries) one.pairs other.pairs (of_once names summaries) one.tells other.tells in
+    let pairs : one.pairs ≡ other.pairs = turn_once (IsTextOfFirst names summaries) (length summaries) one.pairs
+    other.pairs (of_once names summaries) one.tells other.tells in
     one.is ∙ ap (λ p. entries_text x names summaries ++ p ++ written (codes "END PAIRS")) pairs ∙ sym other.is

@@ -16,7 +16,8 @@ ghost use Rattle.certificate_meaning.specs.declared.fault.CertFault.TheVariants.
 ghost use Rattle.checked.specs.Kept.{KeptSummaries};
 ghost use Rattle.certificate_meaning.specs.Verdicts.{Accepts, Refuses};
 
-/// What facts say of the jobs of an entry is one summary, and an exchange has one list of summaries by its least facts.
+/// What facts say of the jobs of an entry is one summary, and an exchange has one list of summaries
+/// by its least facts.
 pub fn summaries_are_one()
     ensures entry { (x : Exchange) (facts : List Fact) (e : ℕ) (s t : Summary)
         → IsSummary x (Contains facts) e s → IsSummary x (Contains facts) e t → s ≡ t }

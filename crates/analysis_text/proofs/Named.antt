@@ -1,5 +1,6 @@
 -- The names of an exchange, put together.
-use Rattle.std.proofs.Common.{◌≡◌, ℕ, List, ◌++◌, Result, Ok, Err, MatchResult, OnOk, codes, sym, ap, ◌∙◌, subst, append_assoc}
+use Rattle.std.proofs.Common.{◌≡◌, ℕ, List, ◌++◌, Result, Ok, Err, MatchResult, OnOk, codes, sym}
+use Rattle.std.proofs.Common.{ap, ◌∙◌, subst, append_assoc}
 use Rattle.std.specs.List.{flat_map}
 use Rattle.exchange_model.specs.declared.block.Block.{Block}
 use Rattle.pair_tests.specs.declared.pair.Test.{Test}
@@ -12,9 +13,11 @@ names_same : (blocks : List Block) (v f g : List (List ℕ)) → v ≡ flat_map 
     → record { variables = v; fields = f; files = g } ≡ names_of blocks
 names_same blocks v f g a b c = λ i. record { variables = a i; fields = b i; files = c i }
 
-pub names_are : (blocks items : List Block) (v f g : List (List ℕ)) → items ≡ blocks → v ≡ flat_map variables_of items → f ≡ flat_map fields_of items → g ≡ flat_map files_of items
+pub names_are : (blocks items : List Block) (v f g : List (List ℕ)) → items ≡ blocks → v ≡ flat_map variables_of items
+    → f ≡ flat_map fields_of items → g ≡ flat_map files_of items
     → record { variables = v; fields = f; files = g } ≡ names_of blocks
-names_are blocks items v f g same a b c = names_same blocks v f g (a ∙ ap (flat_map variables_of) same) (b ∙ ap (flat_map fields_of) same) (c ∙ ap (flat_map files_of) same)
+names_are blocks items v f g same a b c = names_same blocks v f g (a ∙ ap (flat_map variables_of) same)
+    (b ∙ ap (flat_map fields_of) same) (c ∙ ap (flat_map files_of) same)
 
 -- a test that names a file
 
@@ -22,8 +25,10 @@ pub on_ok : {X E : Type 0} (r : Result X E) (P Q R : Type 0) → (P → R) → M
 on_ok (Ok x) P Q R f m = f m
 on_ok (Err e) P Q R f m = tt
 
-pub holds_no_told : (names : Names) (t : Test) (file : ℕ) (text head name new : List ℕ) → t ≡ test.HoldsNo file → head ≡ text ++ codes "FIRST HOLDS NO " → name ≡ name_at names.files file → new ≡ head ++ name
+pub holds_no_told : (names : Names) (t : Test) (file : ℕ) (text head name new : List ℕ) → t ≡ test.HoldsNo file
+    → head ≡ text ++ codes "FIRST HOLDS NO " → name ≡ name_at names.files file → new ≡ head ++ name
     → new ≡ text ++ test_words names t
 holds_no_told names t file text head name new is first named wrote =
     subst (λ u. new ≡ text ++ test_words names u) (sym is)
-    (wrote ∙ ap (λ h. h ++ name) first ∙ ap (λ n. text ++ codes "FIRST HOLDS NO " ++ n) named ∙ append_assoc text (codes "FIRST HOLDS NO ") (name_at names.files file))
+    (wrote ∙ ap (λ h. h ++ name) first ∙ ap (λ n. text ++ codes "FIRST HOLDS NO " ++ n) named
+    ∙ append_assoc text (codes "FIRST HOLDS NO ") (name_at names.files file))

@@ -1,5 +1,7 @@
 -- The texts of pairs, one after the other.
-use Rattle.std.proofs.Common.{◌≡◌, ⊎_elim, ℕ, ◌+◌, ◌<◌, ◌≤◌, List, [], ◌∷◌, ◌++◌, length, map, get_or, Some, slice_get, refl, sym, ap, ◌∙◌, subst, arith, append_assoc, append-nil, length-append}
+use Rattle.std.proofs.Common.{◌≡◌, ⊎_elim, ℕ, ◌+◌, ◌<◌, ◌≤◌, List, [], ◌∷◌, ◌++◌, length, map}
+use Rattle.std.proofs.Common.{get_or, Some, slice_get, refl, sym, ap, ◌∙◌, subst, arith}
+use Rattle.std.proofs.Common.{append_assoc, append-nil, length-append}
 use Rattle.std.specs.List.{concat}
 use Rattle.std.proofs.lemmas.Bool.{cases_lt}
 use Rattle.std.proofs.lemmas.List.{get_or_append_left, get_or-append-add}
@@ -16,7 +18,8 @@ use Rattle.analysis_text.specs.declared.told.Told.TheVariants.{Never, Asks}
 use Rattle.analysis_text.specs.declared.told.ToldPair.{ToldPair}
 use Rattle.analysis_text.specs.Telling.{IsToldOf, TellsPair}
 use Rattle.text_parts.proofs.Joined.{put_back}
-use Rattle.analysis_text.specs.Pairs.{IsPairText, never, tested, InTurn, IsTextWith, IsTextOfFirst, GainsText}
+use Rattle.analysis_text.specs.Pairs.{IsPairText, never, tested, InTurn, IsTextWith, IsTextOfFirst}
+use Rattle.analysis_text.specs.Pairs.{GainsText}
 
 module _ (P : ℕ → List ℕ → Type 0) where
   turn_none : InTurn P 0 []
@@ -54,7 +57,8 @@ module _ (P : ℕ → List ℕ → Type 0) where
   turns_end n m count old new is most least h = (let same : n ≡ count = omega (arith, is, most, least) in subst (λ k. GainsText (InTurn P k) old new) same h)
 
 -- an end that was taken, and is longer when it is put back
-pub grown_end : (P : List ℕ → Type 0) (old rest end longer new : List ℕ) → old ≡ rest ++ end → GainsText P end longer → new ≡ rest ++ longer → GainsText P old new
+pub grown_end : (P : List ℕ → Type 0) (old rest end longer new : List ℕ) → old ≡ rest ++ end → GainsText P end longer
+    → new ≡ rest ++ longer → GainsText P old new
 grown_end P old rest end longer new taken grown put = record {
   added = grown.added;
   is = put_back old rest end longer grown.added new taken grown.is put;
@@ -68,10 +72,12 @@ pub record RowGoes (names : Names) (summaries : List Summary) (i n : ℕ) (old n
   pub grown : GainsText (InTurn (IsTextWith names summaries i first) n) old new
 
 pub row_begin : (names : Names) (summaries : List Summary) (i : ℕ) (old : List ℕ) → i < length summaries → RowGoes names summaries i 0 old old
-row_begin names summaries i old lt = (let s = some_at summaries i lt in record { first = s.0; there = s.1; grown = turns_begin (IsTextWith names summaries i s.0) old })
+row_begin names summaries i old lt = (let s = some_at summaries i lt in record
+    { first = s.0; there = s.1; grown = turns_begin (IsTextWith names summaries i s.0) old })
 
 pub row_more : (names : Names) (summaries : List Summary) (i j : ℕ) (pair : ToldPair) (old now new : List ℕ) → IsToldOf summaries i j pair
-    → ((first later : Summary) → TellsPair first later pair.told → GainsText (IsPairText names i j first later) now new) → RowGoes names summaries i j old now → RowGoes names summaries i (j + 1) old new
+    → ((first later : Summary) → TellsPair first later pair.told → GainsText (IsPairText names i j first later) now new)
+    → RowGoes names summaries i j old now → RowGoes names summaries i (j + 1) old new
 row_more names summaries i j pair old now new of written_so before =
     let same : of.told.first ≡ before.first = same_Some of.told.first before.first (sym of.told.of_first ∙ of.like_first ∙ before.there) in
     let tells : TellsPair before.first of.told.later pair.told = subst (λ (s : Summary). TellsPair s of.told.later pair.told) same of.told.tells in
@@ -86,7 +92,8 @@ row_more names summaries i j pair old now new of written_so before =
       });
     }
 
-pub row_end : (names : Names) (summaries : List Summary) (i n m : ℕ) (old new : List ℕ) → m ≡ length summaries → n ≤ m → m ≤ n → RowGoes names summaries i n old new → GainsText (IsTextOfFirst names summaries i) old new
+pub row_end : (names : Names) (summaries : List Summary) (i n m : ℕ) (old new : List ℕ) → m ≡ length summaries → n ≤ m
+    → m ≤ n → RowGoes names summaries i n old new → GainsText (IsTextOfFirst names summaries i) old new
 row_end names summaries i n m old new is most least h =
     let all = turns_end (IsTextWith names summaries i h.first) n m (length summaries) old new is most least h.grown in
     record { added = all.added; is = all.is; tells = record { first = h.first; there = h.there; tells = all.tells } }
@@ -98,7 +105,8 @@ pub never_told : (names : Names) (i j : ℕ) (told : Told) (c : Conflict) (old n
 never_told names i j told c old new is wrote first later tells =
     record { added = written (never_line names i j c); is = wrote; tells = never c (subst (TellsPair first later) is tells) }
 
-pub tests_told : (names : Names) (i j : ℕ) (told : Told) (tests listed : List Test) (old new : List ℕ) → told ≡ Asks tests → listed ≡ tests → new ≡ old ++ text_of (map (if_line names i j) listed)
+pub tests_told : (names : Names) (i j : ℕ) (told : Told) (tests listed : List Test) (old new : List ℕ)
+    → told ≡ Asks tests → listed ≡ tests → new ≡ old ++ text_of (map (if_line names i j) listed)
     → (first later : Summary) → TellsPair first later told → GainsText (IsPairText names i j first later) old new
 tests_told names i j told tests listed old new is same wrote first later tells =
     let both : TellsPair first later (Asks tests) = subst (TellsPair first later) is tells in

@@ -5,7 +5,8 @@ use Rattle.std.specs.Fmt.{decimal}
 use Rattle.plex_num.specs.declared.level.Level.{Level}
 use Rattle.exchange_model.specs.declared.exchange.Exchange.{Exchange}
 use Rattle.entry_summary.specs.declared.summary.Access.{Access}
-use Rattle.entry_summary.specs.declared.summary.Access.TheVariants.{Variable, Field, Own, Seizes, Frees}
+use Rattle.entry_summary.specs.declared.summary.Access.TheVariants.{Variable, Field, Own, Seizes}
+use Rattle.entry_summary.specs.declared.summary.Access.TheVariants.{Frees}
 use Rattle.entry_summary.specs.declared.summary.Summary.{Summary}
 use Rattle.pair_tests.specs.declared.pair.Conflict.{Conflict}
 use Rattle.pair_tests.specs.declared.pair.Conflict.TheVariants as conflict
@@ -31,7 +32,8 @@ use_word true = codes "WRITE "
 
 abbrev pub access_line : Names → Access → List ℕ
 access_line names (Variable w n) = use_word w ++ codes "VAR " ++ name_at names.variables n
-access_line names (Field w n v) = use_word w ++ codes "FIELD " ++ name_at names.fields n ++ codes " " ++ value_words v
+access_line names (Field w n v) =
+    use_word w ++ codes "FIELD " ++ name_at names.fields n ++ codes " " ++ value_words v
 access_line names (Own w n) = use_word w ++ codes "OWN " ++ name_at names.fields n
 access_line names (Seizes f) = codes "SEIZE " ++ name_at names.files f
 access_line names (Frees f) = codes "FREE " ++ name_at names.files f
@@ -45,22 +47,26 @@ fault_text true = written (codes "FAULT")
 
 -- `ENTRY i SIG BLOCK LEVEL l`
 abbrev pub entry_line : Exchange → ℕ → Level → List ℕ
-entry_line x i level = codes "ENTRY " ++ decimal i ++ codes " " ++ name_of_entry x i ++ codes " LEVEL " ++ level_word level
+entry_line x i level = codes "ENTRY " ++ decimal i ++ codes " " ++ name_of_entry x i
+    ++ codes " LEVEL " ++ level_word level
 
 -- what the jobs of an entry may do
 abbrev pub summary_text : Exchange → Names → ℕ → Summary → List ℕ
 summary_text x names i s =
-    written (entry_line x i s.level) ++ text_of (map (access_line names) s.accesses) ++ text_of (map send_line s.levels) ++ fault_text s.fault
+    written (entry_line x i s.level) ++ text_of (map (access_line names) s.accesses)
+    ++ text_of (map send_line s.levels) ++ fault_text s.fault
 
 -- what the jobs of all entries may do
 abbrev pub entries_text : Exchange → Names → List Summary → List ℕ
-entries_text x names summaries = flat_map (λ (s : ℕ × Summary). summary_text x names s.0 s.1) (enumerate_from 0 summaries)
+entries_text x names summaries =
+    flat_map (λ (s : ℕ × Summary). summary_text x names s.0 s.1) (enumerate_from 0 summaries)
 
 -- pairs
 
 abbrev pub conflict_words : Names → Conflict → List ℕ
 conflict_words names (conflict.Variable n) = codes "VARIABLE " ++ name_at names.variables n
-conflict_words names (conflict.Field n u v) = codes "FIELD " ++ name_at names.fields n ++ codes " " ++ value_words u ++ codes " WITH " ++ value_words v
+conflict_words names (conflict.Field n u v) = codes "FIELD " ++ name_at names.fields n ++ codes " "
+    ++ value_words u ++ codes " WITH " ++ value_words v
 conflict_words names (conflict.Seizing f) = codes "SEIZE " ++ name_at names.files f
 conflict_words names (conflict.Above level) = codes "LEVEL " ++ level_word level
 

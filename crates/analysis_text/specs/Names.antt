@@ -1,5 +1,5 @@
--- How an analysis names what has a number. Variables, fields and files are numbered through the exchange, and a number that it
--- does not have is named by no bytes.
+-- How an analysis names what has a number. Variables, fields and files are numbered through the
+-- exchange, and a number that it does not have is named by no bytes.
 use Rattle.std.specs.Prelude.{ℕ, List, [], ◌++◌, codes, flat_map, map, slice_get}
 use Rattle.std.specs.Option.{unwrap_or}
 use Rattle.std.specs.Fmt.{decimal}
@@ -31,7 +31,11 @@ files_of b = map (λ (f : File). own_name b.name f.name) b.files
 
 -- those of all blocks: what has number n is the n-th
 abbrev pub names_of : List Block → Names
-names_of blocks = record { variables = flat_map variables_of blocks; fields = flat_map fields_of blocks; files = flat_map files_of blocks }
+names_of blocks = record {
+  variables = flat_map variables_of blocks;
+  fields = flat_map fields_of blocks;
+  files = flat_map files_of blocks;
+}
 
 abbrev pub name_at : List (List ℕ) → ℕ → List ℕ
 name_at names n = unwrap_or (slice_get names n) []

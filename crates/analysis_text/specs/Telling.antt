@@ -22,7 +22,8 @@ pub record IsToldPair (summaries : List Summary) (pair : ToldPair) : Type 0 wher
 
 -- all that are kept are told of these summaries
 abbrev pub AreTold : List Summary → List (Option ToldPair) → Type 0
-AreTold summaries pairs = (place : ℕ) (pair : ToldPair) → slice_get pairs place ≡ Some (Some pair) → IsToldPair summaries pair
+AreTold summaries pairs = (place : ℕ) (pair : ToldPair) → slice_get pairs place ≡ Some (Some pair)
+    → IsToldPair summaries pair
 
 -- it is told of two places at which the same stands as at these
 pub record IsToldOf (summaries : List Summary) (first later : ℕ) (pair : ToldPair) : Type 0 where

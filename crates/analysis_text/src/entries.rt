@@ -3,7 +3,8 @@ ghost use Rattle.std.specs.Prelude.{◌≡◌, ◌+◌, ◌<◌, ◌++◌, IfOk,
 ghost use Rattle.std.specs.List.{concat};
 ghost use Rattle.entry_summary.specs.declared.summary.Summary.{Summary};
 ghost use Rattle.analysis_text.specs.Bodies.{AreBodies, HasBody, body_text};
-ghost use Rattle.analysis_text.specs.Lines.{access_line, entries_text, entry_line, fault_text, send_line, summary_text, text_of, use_word, written};
+ghost use Rattle.analysis_text.specs.Lines.{access_line, entries_text, entry_line, fault_text};
+ghost use Rattle.analysis_text.specs.Lines.{send_line, summary_text, text_of, use_word, written};
 
 use crate::names::{Names, add_value, level_word, name_at};
 use entry_summary::{Access, Summary};
@@ -13,7 +14,8 @@ use plex_num::{Level, Memory, Seq, add_number};
 use std::alloc::Global;
 use text_parts::Parts;
 
-/// What the jobs of each entry may do. What is told of entries with equal summaries, behind the lines that name them, is kept once.
+/// What the jobs of each entry may do. What is told of entries with equal summaries, behind the
+/// lines that name them, is kept once.
 pub fn add_entries(
     parts: &mut Parts,
     alloc: Global,

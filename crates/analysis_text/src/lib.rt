@@ -1,8 +1,8 @@
 // The text of the analysis.
 //
-// What goes in: an exchange, and the summaries of its entries in their order. What comes out: what the jobs of each entry may do,
-// and which pairs of entries never run at once or on which tests, byte for byte. It knows nothing of facts, and not how a
-// summary came about.
+// What goes in: an exchange, and the summaries of its entries in their order. What comes out: what
+// the jobs of each entry may do, and which pairs of entries never run at once or on which tests,
+// byte for byte. It knows nothing of facts, and not how a summary came about.
 #![tactic(auto)]
 
 mod entries;

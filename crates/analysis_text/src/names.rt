@@ -1,6 +1,9 @@
 // What has a number is told by its name.
 ghost use Rattle.std.specs.Prelude.{◌≡◌, ◌++◌, OnOk, IfOk, flat_map};
-ghost use Rattle.analysis_text.specs.Names.{fields_of as fields_of_block, fields_of_file, files_of as files_of_block, level_word, name_at, names_of, own_name, value_words, variables_of as variables_of_block};
+ghost use Rattle.analysis_text.specs.Names.{fields_of as fields_of_block, fields_of_file};
+ghost use Rattle.analysis_text.specs.Names.{files_of as files_of_block, level_word, name_at};
+ghost use Rattle.analysis_text.specs.Names.{names_of, own_name, value_words};
+ghost use Rattle.analysis_text.specs.Names.{variables_of as variables_of_block};
 
 use exchange_model::{Block, Exchange, File};
 use flow_points::Value;

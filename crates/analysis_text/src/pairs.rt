@@ -1,7 +1,8 @@
 // The lines of the pairs.
 ghost use Rattle.std.specs.Prelude.{◌≡◌, ◌<◌, ◌++◌, OnOk, map, length};
 ghost use Rattle.entry_summary.specs.declared.summary.Summary.{Summary};
-ghost use Rattle.analysis_text.specs.Lines.{conflict_words, if_line, never_line, pair_words, test_words, text_of, written};
+ghost use Rattle.analysis_text.specs.Lines.{conflict_words, if_line, never_line, pair_words};
+ghost use Rattle.analysis_text.specs.Lines.{test_words, text_of, written};
 ghost use Rattle.analysis_text.specs.Pairs.{ArePairs, GainsText, IsPairText, IsTextOfFirst};
 ghost use Rattle.analysis_text.specs.Telling.{AreTold, TellsPair};
 

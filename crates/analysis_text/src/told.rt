@@ -9,14 +9,16 @@ use pair_tests::{Conflict, Test, Verdict, tests_of, verdict_of};
 use plex_num::{Memory, Seq};
 use std::alloc::Global;
 
-/// What is told of two summaries: their first conflict, or else all tests that jobs of the two must pass, in order.
+/// What is told of two summaries: their first conflict, or else all tests that jobs of the two must
+/// pass, in order.
 #[derive(Drop)]
 pub enum Told {
     Never(Conflict),
     Asks(Seq<Test>),
 }
 
-/// What is told of the summaries at two places, of which the first comes before the later one in the single run.
+/// What is told of the summaries at two places, of which the first comes before the later one in
+/// the single run.
 #[derive(Drop)]
 pub struct ToldPair {
     pub first: usize,
@@ -24,8 +26,8 @@ pub struct ToldPair {
     pub told: Told,
 }
 
-/// What was told of pairs of so many summaries, each pair at a place of its own, which is a hint alone: what stands there says of
-/// which pair it is.
+/// What was told of pairs of so many summaries, each pair at a place of its own, which is a hint
+/// alone: what stands there says of which pair it is.
 pub struct ToldPairs {
     count: usize,
     pairs: Vec<Option<ToldPair>>,
@@ -47,8 +49,8 @@ impl ToldPairs {
         Ok(ToldPairs { count, pairs })
     }
 
-    /// What is told of two summaries. Where it was told of two that are equal to these and kept, it is handed out, and nothing is
-    /// looked at again.
+    /// What is told of two summaries. Where it was told of two that are equal to these and kept, it
+    /// is handed out, and nothing is looked at again.
     pub fn pair(
         &mut self,
         alloc: Global,

@@ -11,9 +11,10 @@ use plex_num::Memory;
 use std::alloc::Global;
 use text_parts::{Parts, Text};
 
-/// The text of the analysis of an exchange whose entries have these summaries, in the order of the entries: what the jobs of each
-/// entry may do, and of each ordered pair of entries whether they never run at once, with the first conflict, or on which
-/// tests. Memory is the only reason for an error.
+/// The text of the analysis of an exchange whose entries have these summaries, in the order of the
+/// entries: what the jobs of each entry may do, and of each ordered pair of entries whether they
+/// never run at once, with the first conflict, or on which tests. Memory is the only reason for an
+/// error.
 #[tactic(auto, using(crate::proofs::Joined::whole))]
 pub fn analysis(alloc: Global, exchange: &Exchange, summaries: &Summaries) -> Result<Text, Memory>
     ensures { IfOk result (IsAnalysis exchange.now summaries.now) }

@@ -9,16 +9,20 @@ use Rattle.block_change.specs.declared.misfit.Misfit.{Misfit}
 use Rattle.block_change.specs.Misfits.{misfit}
 use Rattle.command_words.specs.Words.{Word, shape}
 use Rattle.command_words.specs.declared.command.Command.{Command}
-use Rattle.command_words.specs.declared.command.Command.TheVariants.{Run, Single, Analyse, Certify, List as Listing, Load, Timed, Change, Trace}
+use Rattle.command_words.specs.declared.command.Command.TheVariants.{Run, Single, Analyse, Certify}
+use Rattle.command_words.specs.declared.command.Command.TheVariants.{List as Listing, Load, Timed}
+use Rattle.command_words.specs.declared.command.Command.TheVariants.{Change, Trace}
 use Rattle.command_words.specs.declared.command.ChangeWords.{ChangeWords}
 use Rattle.command_words.specs.declared.command.RunWords.{RunWords}
 use Rattle.answer_meaning.specs.Outcome.{ComesOf, Out}
 use Rattle.answer_meaning.specs.declared.fault.Which.TheVariants.{First, New}
 use Rattle.answer_meaning.specs.Given.{exchange_as, exchange_at, lines_at, text_at}
-use Rattle.answer_meaning.specs.RunAnswer.{IsCertifiedRun, RunComes, end_of, or_certificate_fault, run_answer, run_of}
+use Rattle.answer_meaning.specs.RunAnswer.{IsCertifiedRun, RunComes, end_of, or_certificate_fault}
+use Rattle.answer_meaning.specs.RunAnswer.{run_answer, run_of}
 use Rattle.answer_meaning.specs.TimedAnswer.{timed_of}
 use Rattle.answer_meaning.specs.TraceAnswer.{trace_of}
-use Rattle.answer_meaning.specs.ChangeAnswer.{AnswersChange, ChangeComes, ChangesOrNot, changed_answer, is_changed, misfit_answer}
+use Rattle.answer_meaning.specs.ChangeAnswer.{AnswersChange, ChangeComes, ChangesOrNot}
+use Rattle.answer_meaning.specs.ChangeAnswer.{changed_answer, is_changed, misfit_answer}
 use Rattle.answer_meaning.specs.ListAnswer.{list_of}
 use Rattle.answer_meaning.specs.LoadAnswer.{load_of}
 use Rattle.answer_meaning.specs.ExchangeAnswer.{AnswersAnalysis, AnswersCertificate, FromExchange}
@@ -62,9 +66,14 @@ analysed x =
     (record { status = status.Done; text = t.0 }, record { status = refl; summaries = ss.0; are = ss.1; told = t.1 })
 
 certified : (x : Exchange) → IsExchange x → (a : Answer) × AnswersCertificate x a
-certified x kept = (let c = certificate x kept in (record { status = status.Done; text = certificate_text c.0 }, record { status = refl; certificate = c.0; is = c.1; told = refl }))
+certified x kept = (let c = certificate x kept in (
+  record { status = status.Done; text = certificate_text c.0 },
+  record
+      { status = refl; certificate = c.0; is = c.1; told = refl },
+))
 
-from_exchange : (name : Word) (Is : Exchange → Answer → Type 0) (files : Files) → ((x : Exchange) → IsExchange x → (a : Answer) × Is x a) → Comes (FromExchange name Is files)
+from_exchange : (name : Word) (Is : Exchange → Answer → Type 0) (files : Files)
+    → ((x : Exchange) → IsExchange x → (a : Answer) × Is x a) → Comes (FromExchange name Is files)
 from_exchange name Is files each = goes_on (exchange_at name files) _ (λ x comes. (let a = each x (accepted First name files x comes).kept in (Ok a.0, a.1)))
 
 -- a change
@@ -76,7 +85,8 @@ changes_or_not old new lines jobs at true kept =
     (changed_answer old new before c.0 jobs at, record { carried = c.0; is = c.1; answers = refl })
 changes_or_not old new lines jobs at false kept = (run_answer old lines jobs, refl)
 
-change_answer : (old new : Exchange) (lines : List Line) (jobs at : ℕ) (m : Option Misfit) → IsExchange new → (a : Answer) × AnswersChange old new lines jobs at m a
+change_answer : (old new : Exchange) (lines : List Line) (jobs at : ℕ) (m : Option Misfit) → IsExchange new
+    → (a : Answer) × AnswersChange old new lines jobs at m a
 change_answer old new lines jobs at None kept = changes_or_not old new lines jobs at (is_changed old lines jobs at) kept
 change_answer old new lines jobs at (Some m) kept = (misfit_answer old m, refl)
 

@@ -1,5 +1,6 @@
 -- A state goes over to another exchange.
-use Rattle.std.proofs.Common.{◌≡◌, ℕ, zero, suc, ◌+◌, ◌<◌, List, [], ◌∷◌, length, slice_index, refl, ap, ◌∙◌, arith}
+use Rattle.std.proofs.Common.{◌≡◌, ℕ, zero, suc, ◌+◌, ◌<◌, List, [], ◌∷◌, length, slice_index, refl}
+use Rattle.std.proofs.Common.{ap, ◌∙◌, arith}
 use Rattle.exchange_model.specs.declared.entry.Cell.{Cell}
 use Rattle.exchange_model.specs.declared.exchange.Exchange.{Exchange}
 use Rattle.exchange_model.specs.Cells.{IsCell, cell_count, cell_number}
@@ -9,7 +10,8 @@ use Rattle.job_types.specs.declared.chain.Held.{Held}
 use Rattle.job_types.specs.Forlopps.{all_records}
 use Rattle.source_meaning.specs.State.{State}
 use Rattle.finite_facts.proofs.Finite.{Decided, less, no, yes}
-use Rattle.block_change.specs.Carried.{AreCarriedWords, IsCarried, carried_chains, carried_value, carried_with}
+use Rattle.block_change.specs.Carried.{AreCarriedWords, IsCarried, carried_chains, carried_value}
+use Rattle.block_change.specs.Carried.{carried_with}
 
 -- the values of a function from a number on
 
@@ -34,9 +36,11 @@ module _ (x y : Exchange) (store : List ℕ) (records : List Held) where
   value i (yes lt) = carried_value x y store records (cell_numbered y.blocks i lt).cell
   value i (no past) = 0
 
-  value_is : (c : Cell) → IsCell y.blocks c → (d : Decided (cell_number y.blocks c < cell_count y.blocks)) → value (cell_number y.blocks c) d ≡ carried_value x y store records c
+  value_is : (c : Cell) → IsCell y.blocks c → (d : Decided (cell_number y.blocks c < cell_count y.blocks))
+      → value (cell_number y.blocks c) d ≡ carried_value x y store records c
   unfolding value
-  value_is c is (yes lt) = (let h = cell_numbered y.blocks (cell_number y.blocks c) lt in ap (carried_value x y store records) (cell_number-once y.blocks h.cell c h.is is h.same))
+  value_is c is (yes lt) = (let h = cell_numbered y.blocks (cell_number y.blocks c) lt in ap
+      (carried_value x y store records) (cell_number-once y.blocks h.cell c h.is is h.same))
   value_is c is (no past) = absurd (past (cell_number-below y.blocks c is))
 
   word : ℕ → ℕ
@@ -53,7 +57,8 @@ module _ (x y : Exchange) (store : List ℕ) (records : List Held) where
         let below = cell_number-below y.blocks c is in
         let cells = kept.numbered.cells in
         let first : 0 + cell_number y.blocks c ≡ cell_number y.blocks c = omega arith in
-        at word 0 y.cells (cell_number y.blocks c) (omega (arith, below, cells)) ∙ ap word first ∙ value_is c is (less (cell_number y.blocks c) (cell_count y.blocks));
+        at word 0 y.cells (cell_number y.blocks c) (omega (arith, below, cells)) ∙ ap word first
+        ∙ value_is c is (less (cell_number y.blocks c) (cell_count y.blocks));
   }
 
 -- the state, carried over

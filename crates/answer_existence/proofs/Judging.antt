@@ -6,7 +6,9 @@ use Rattle.certificate_text.specs.declared.certificate.Certificate.{Certificate}
 use Rattle.certificate_meaning.specs.declared.fault.CertFault.TheVariants as refused
 use Rattle.answer_meaning.specs.Certificates.{IsJudged, Judges, bad, large, read}
 use Rattle.answer_meaning.specs.declared.fault.CertificateFault.{CertificateFault}
-use Rattle.answer_meaning.specs.declared.fault.CertificateFault.TheVariants.{BadText, Missing, Strange, TooLarge, WrongExchange}
+use Rattle.answer_meaning.specs.declared.fault.CertificateFault.TheVariants.{BadText, Missing}
+use Rattle.answer_meaning.specs.declared.fault.CertificateFault.TheVariants.{Strange, TooLarge}
+use Rattle.answer_meaning.specs.declared.fault.CertificateFault.TheVariants.{WrongExchange}
 use Rattle.certificate_existence.proofs.Certifying.{Found, found}
 use Rattle.certificate_existence.proofs.Reading.{Outcome, text_read}
 

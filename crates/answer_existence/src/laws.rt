@@ -15,8 +15,9 @@ pub fn states_are_carried()
         → IsExchange new → (after : State) × IsCarried old new before after }
 {}
 
-/// To all words over all files there is an answer: a status and a text. So there is always something that the program is to
-/// answer, to `analyse`, `certify`, a run with a certificate and a change no less than to all others.
+/// To all words over all files there is an answer: a status and a text. So there is always
+/// something that the program is to answer, to `analyse`, `certify`, a run with a certificate and a
+/// change no less than to all others.
 pub fn an_answer_comes()
     ensures { (words : List Word) (files : Files)
         → (answer : Answer) × IsAnswer words files answer }

@@ -1,5 +1,6 @@
 -- Each stage comes to one outcome, and so the words and the files have one answer.
-use Rattle.std.proofs.Common.{◌≡◌, ℕ, Bool, true, false, List, Option, Some, None, Ok, Err, refl, sym, ap, ◌∙◌, subst}
+use Rattle.std.proofs.Common.{◌≡◌, ℕ, Bool, true, false, List, Option, Some, None, Ok, Err, refl}
+use Rattle.std.proofs.Common.{sym, ap, ◌∙◌, subst}
 use Rattle.plex_io.specs.Files.{Files}
 use Rattle.exchange_model.specs.declared.exchange.Exchange.{Exchange}
 use Rattle.exchange_model.specs.Kept.{IsExchange}
@@ -11,7 +12,9 @@ use Rattle.block_change.specs.Misfits.{misfit}
 use Rattle.block_change.proofs.Once.{state_once}
 use Rattle.command_words.specs.Words.{Word, shape}
 use Rattle.command_words.specs.declared.command.Command.{Command}
-use Rattle.command_words.specs.declared.command.Command.TheVariants.{Run, Single, Analyse, Certify, List as Listing, Load, Timed, Change, Trace}
+use Rattle.command_words.specs.declared.command.Command.TheVariants.{Run, Single, Analyse, Certify}
+use Rattle.command_words.specs.declared.command.Command.TheVariants.{List as Listing, Load, Timed}
+use Rattle.command_words.specs.declared.command.Command.TheVariants.{Change, Trace}
 use Rattle.command_words.specs.declared.command.ChangeWords.{ChangeWords}
 use Rattle.command_words.specs.declared.command.RunWords.{RunWords}
 use Rattle.analysis_laws.proofs.Certifying.{certificate_once}
@@ -20,8 +23,10 @@ use Rattle.analysis_laws.proofs.Telling.{analysis_once}
 use Rattle.answer_meaning.specs.Outcome.{ComesOf, IsAnAnswer, Out}
 use Rattle.answer_meaning.specs.declared.fault.Which.TheVariants.{New}
 use Rattle.answer_meaning.specs.Given.{exchange_as, exchange_at, lines_at, text_at}
-use Rattle.answer_meaning.specs.RunAnswer.{IsCertifiedRun, RunComes, end_of, or_certificate_fault, run_answer}
-use Rattle.answer_meaning.specs.ChangeAnswer.{AnswersChange, ChangeAnswers, ChangeComes, ChangesOrNot, changed_answer, is_changed}
+use Rattle.answer_meaning.specs.RunAnswer.{IsCertifiedRun, RunComes, end_of, or_certificate_fault}
+use Rattle.answer_meaning.specs.RunAnswer.{run_answer}
+use Rattle.answer_meaning.specs.ChangeAnswer.{AnswersChange, ChangeAnswers, ChangeComes}
+use Rattle.answer_meaning.specs.ChangeAnswer.{ChangesOrNot, changed_answer, is_changed}
 use Rattle.answer_meaning.specs.ExchangeAnswer.{AnswersAnalysis, AnswersCertificate, FromExchange}
 use Rattle.answer_meaning.specs.Answer.{IsAnswer, IsAnswerBy, answer_of, performed}
 use Rattle.answer_meaning.specs.declared.answer.Answer.{Answer}
@@ -29,14 +34,17 @@ use Rattle.answer_meaning.proofs.Accepted.{accepted}
 use Rattle.answer_laws.proofs.Judging.{judged_once}
 
 -- a stage that is followed by one that comes to one outcome comes to one
-goes_once : {A : Type 0} (s : Out A) (Go : A → Out Answer → Type 0) (o p : Out Answer) → ((a : A) → s ≡ Ok a → Go a o → Go a p → o ≡ p) → ComesOf s Go o → ComesOf s Go p → o ≡ p
+goes_once : {A : Type 0} (s : Out A) (Go : A → Out Answer → Type 0) (o p : Out Answer)
+    → ((a : A) → s ≡ Ok a → Go a o → Go a p → o ≡ p) → ComesOf s Go o → ComesOf s Go p → o ≡ p
 goes_once (Ok a) Go o p once one other = once a refl one other
 goes_once (Err r) Go o p once one other = sym one ∙ other
 
 -- a run with a certificate
 
 certified_once : (x : Exchange) (text : Option (List ℕ)) (a : Answer) (o p : Out Answer) → IsCertifiedRun x text a o → IsCertifiedRun x text a p → o ≡ p
-certified_once x text a o p one other = sym one.comes ∙ ap (λ f. or_certificate_fault f a) (judged_once x text one.fault other.fault one.judged other.judged) ∙ other.comes
+certified_once x text a o p one other = sym one.comes
+    ∙ ap (λ f. or_certificate_fault f a) (judged_once x text one.fault other.fault one.judged other.judged)
+    ∙ other.comes
 
 run_once : (w : RunWords) (name : Option Word) (files : Files) (o p : Out Answer) → RunComes w name files o → RunComes w name files p → o ≡ p
 run_once w None files o p one other = sym one ∙ other
@@ -66,18 +74,22 @@ an_answer_once Is (Ok a) (Ok b) once one other = ap (λ c. Ok c) (once a b one o
 an_answer_once Is (Ok a) (Err q) once one other = absurd other
 an_answer_once Is (Err r) p once one other = absurd one
 
-from_once : (name : Word) (Is : Exchange → Answer → Type 0) (files : Files) (o p : Out Answer) → ((x : Exchange) (a b : Answer) → Is x a → Is x b → a ≡ b) → FromExchange name Is files o → FromExchange name Is files p → o ≡ p
+from_once : (name : Word) (Is : Exchange → Answer → Type 0) (files : Files) (o p : Out Answer)
+    → ((x : Exchange) (a b : Answer) → Is x a → Is x b → a ≡ b) → FromExchange name Is files o
+    → FromExchange name Is files p → o ≡ p
 from_once name Is files o p once one other = goes_once (exchange_at name files) _ o p (λ x comes. an_answer_once (Is x) o p (once x)) one other
 
 -- a change
 
-changed_once : (old new : Exchange) (lines : List Line) (jobs at : ℕ) (b : Bool) (a c : Answer) → IsExchange new → ChangesOrNot old new lines jobs at b a → ChangesOrNot old new lines jobs at b c → a ≡ c
+changed_once : (old new : Exchange) (lines : List Line) (jobs at : ℕ) (b : Bool) (a c : Answer) → IsExchange new
+    → ChangesOrNot old new lines jobs at b a → ChangesOrNot old new lines jobs at b c → a ≡ c
 changed_once old new lines jobs at true a c kept one other =
     let carried = state_once old new (end_of old lines at) one.carried other.carried kept one.is other.is in
     one.answers ∙ ap (λ s. changed_answer old new (end_of old lines at) s jobs at) carried ∙ sym other.answers
 changed_once old new lines jobs at false a c kept one other = one ∙ sym other
 
-change_once : (old new : Exchange) (lines : List Line) (jobs at : ℕ) (m : Option Misfit) (a b : Answer) → IsExchange new → AnswersChange old new lines jobs at m a → AnswersChange old new lines jobs at m b → a ≡ b
+change_once : (old new : Exchange) (lines : List Line) (jobs at : ℕ) (m : Option Misfit) (a b : Answer) → IsExchange new
+    → AnswersChange old new lines jobs at m a → AnswersChange old new lines jobs at m b → a ≡ b
 change_once old new lines jobs at None a b kept one other = changed_once old new lines jobs at (is_changed old lines jobs at) a b kept one other
 change_once old new lines jobs at (Some m) a b kept one other = one ∙ sym other
 

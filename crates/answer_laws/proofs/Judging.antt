@@ -9,7 +9,9 @@ use Rattle.certificate_meaning.proofs.Judging.{never_closed}
 use Rattle.analysis_laws.proofs.Refusing.{refused_once}
 use Rattle.answer_meaning.specs.Certificates.{IsJudged, Judges, large, bad, read}
 use Rattle.answer_meaning.specs.declared.fault.CertificateFault.{CertificateFault}
-use Rattle.answer_meaning.specs.declared.fault.CertificateFault.TheVariants.{TooLarge, BadText, WrongExchange, Strange, Missing}
+use Rattle.answer_meaning.specs.declared.fault.CertificateFault.TheVariants.{TooLarge, BadText}
+use Rattle.answer_meaning.specs.declared.fault.CertificateFault.TheVariants.{WrongExchange, Strange}
+use Rattle.answer_meaning.specs.declared.fault.CertificateFault.TheVariants.{Missing}
 
 -- a text with a bad line is that of no certificate
 
@@ -30,7 +32,8 @@ fault_once x c TooLarge g a b = absurd a
 fault_once x c (BadText line) g a b = absurd a
 fault_once x c (WrongExchange s t) TooLarge a b = absurd b
 fault_once x c (WrongExchange s t) (BadText line) a b = absurd b
-fault_once x c (WrongExchange s t) (WrongExchange u v) a b = let e = refused_once x c (fault.WrongExchange s t) (fault.WrongExchange u v) (λ e. cc) (λ e. cc) a b in cc
+fault_once x c (WrongExchange s t) (WrongExchange u v) a b = let e = refused_once x c (fault.WrongExchange s t)
+    (fault.WrongExchange u v) (λ e. cc) (λ e. cc) a b in cc
 fault_once x c (WrongExchange s t) (Strange g) a b = let e = refused_once x c (fault.WrongExchange s t) (fault.StrangeFact g) (λ e. cc) (λ e. cc) a b in cc
 fault_once x c (WrongExchange s t) (Missing g) a b = let e = refused_once x c (fault.WrongExchange s t) (fault.MissingFact g) (λ e. cc) (λ e. cc) a b in cc
 fault_once x c (Strange f) TooLarge a b = absurd b

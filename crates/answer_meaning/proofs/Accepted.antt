@@ -1,10 +1,14 @@
 -- The exchange that the text of a file means, or its first fault.
-use Rattle.std.proofs.Common.{◌≡◌, ℕ, ◌≤◌, List, length, Some, sym, ◌∙◌, ap, slice_get, Result, Ok, Err, true, IfOk, arith, subst, suc, ◌+◌, ◌-◌, Bool, false, nat_eq, [], ◌∷◌, Option, None, refl, if◌then◌else◌, ◌<◌, get_or, map, nat_lt}
+use Rattle.std.proofs.Common.{◌≡◌, ℕ, ◌≤◌, List, length, Some, sym, ◌∙◌, ap, slice_get, Result, Ok}
+use Rattle.std.proofs.Common.{Err, true, IfOk, arith, subst, suc, ◌+◌, ◌-◌, Bool, false, nat_eq, []}
+use Rattle.std.proofs.Common.{◌∷◌, Option, None, refl, if◌then◌else◌, ◌<◌, get_or, map, nat_lt}
 use Rattle.std.specs.Option.{option_map}
 use Rattle.std.proofs.lemmas.Option.{slice_get-map, slice_get_past, none-some, same_Some}
 use Rattle.plex_lexer.specs.Cursors.{lines}
 use Rattle.plex_lexer.specs.declared.token.Token.{Token}
-use Rattle.answer_meaning.specs.Reading.{line_or_none, token_line, Finds, at_line, exchange_of, resolved_or, rule_of, IsSpelled, tree_of_lexed, tree_of_tokens, exchange_of_text, tree_of, tree_or_fault}
+use Rattle.answer_meaning.specs.Reading.{line_or_none, token_line, Finds, at_line, exchange_of}
+use Rattle.answer_meaning.specs.Reading.{resolved_or, rule_of, IsSpelled, tree_of_lexed}
+use Rattle.answer_meaning.specs.Reading.{tree_of_tokens, exchange_of_text, tree_of, tree_or_fault}
 use Rattle.exchange_model.specs.declared.exchange.Exchange.{Exchange}
 use Rattle.plex_ast.specs.declared.tree.Tree.{Tree}
 use Rattle.text_rules.specs.declared.rule.Rule.{Rule as TextRule}
@@ -14,11 +18,14 @@ use Rattle.text_soundness.specs.Resolved.{resolved, told_or}
 use Rattle.answer_meaning.specs.declared.fault.Rule.{Rule}
 use Rattle.answer_meaning.specs.declared.fault.SourceFault.{SourceFault}
 use Rattle.plex_num.specs.declared.seq.Memory.{Memory}
-use Rattle.plex_limits.specs.declared.limits.TheConstants.{MOST_BYTES, MOST_WHENS, MOST_BRACKETS, MOST_NESTED}
+use Rattle.plex_limits.specs.declared.limits.TheConstants.{MOST_BYTES, MOST_WHENS, MOST_BRACKETS}
+use Rattle.plex_limits.specs.declared.limits.TheConstants.{MOST_NESTED}
 use Rattle.plex_num.proofs.Numbers.{few_enough}
-use Rattle.plex_lexer.specs.Lexed.{tokens_of, Mode, Between, Comment, InWord, InDigits, InMark, begins, goes_on as stays_in, lexed, put, with_kind, with_mark}
+use Rattle.plex_lexer.specs.Lexed.{tokens_of, Mode, Between, Comment, InWord, InDigits, InMark}
+use Rattle.plex_lexer.specs.Lexed.{begins, goes_on as stays_in, lexed, put, with_kind, with_mark}
 use Rattle.plex_ast.specs.Grammar.{Sentence}
-use Rattle.resolved_block.specs.Texts.{choices_in, exchange_of_tree, exchange_of as built_of, none_before, typed_from}
+use Rattle.resolved_block.specs.Texts.{choices_in, exchange_of_tree, exchange_of as built_of}
+use Rattle.resolved_block.specs.Texts.{none_before, typed_from}
 use Rattle.kept_trees.proofs.Texts.{read_keeps}
 use Rattle.text_soundness.proofs.SpelledTexts.{tree_least}
 use Rattle.std.specs.Char.{is_ascii_digit, is_ascii_uppercase}
@@ -65,7 +72,9 @@ pub line_found : (tokens : List Token) (i line : ℕ) → slice_get (lines token
 line_found tokens i line is = sym (ap line_or_none is)
 
 pub line_absent : (tokens : List Token) (i : ℕ) → length tokens ≤ i → 0 ≡ token_line tokens i
-line_absent tokens i past = sym (ap line_or_none (slice_get-map (λ (t : Token). t.line) tokens i ∙ ap (option_map (λ (t : Token). t.line)) (slice_get_past tokens i past)))
+line_absent tokens i past = sym (ap line_or_none
+    (slice_get-map (λ (t : Token). t.line) tokens i
+    ∙ ap (option_map (λ (t : Token). t.line)) (slice_get_past tokens i past)))
 
 pub ruleset line_rules = (line_found, line_absent)
 
@@ -74,12 +83,15 @@ pub ruleset line_rules = (line_found, line_absent)
 pub resolves_ok : (said : Result Exchange TextFault) (x : Exchange) → said ≡ Ok x → Finds (resolved_or said) (Ok (Ok x))
 resolves_ok said x is = ap resolved_or is
 
-pub resolves_rule : (said : Result Exchange TextFault) (broken : TextRule) (line : ℕ) (rule : Rule) (f : SourceFault) → said ≡ Err (fault.Rule broken line) → rule ≡ rule_of broken → f ≡ at_line line rule → Finds (resolved_or said) (Ok (Err f))
+pub resolves_rule : (said : Result Exchange TextFault) (broken : TextRule) (line : ℕ) (rule : Rule) (f : SourceFault)
+    → said ≡ Err (fault.Rule broken line) → rule ≡ rule_of broken → f ≡ at_line line rule
+    → Finds (resolved_or said) (Ok (Err f))
 resolves_rule said broken line rule f is named at = ap resolved_or is ∙ ap (λ r. Err (at_line line r)) (sym named) ∙ ap (λ g. Err g) (sym at)
 
 pub ruleset resolve_rules = (resolves_ok, resolves_rule)
 
-pub found_tree : (said : Result Tree SourceFault) (t : Tree) (found : Result Exchange SourceFault) → said ≡ Ok t → resolved_or (resolved t) ≡ found → Finds (exchange_of said) (Ok found)
+pub found_tree : (said : Result Tree SourceFault) (t : Tree) (found : Result Exchange SourceFault) → said ≡ Ok t
+    → resolved_or (resolved t) ≡ found → Finds (exchange_of said) (Ok found)
 found_tree said t found is means = ap exchange_of is ∙ means
 
 pub found_fault : (said : Result Tree SourceFault) (f : SourceFault) → said ≡ Err f → Finds (exchange_of said) (Ok (Err f))
@@ -89,19 +101,24 @@ pub ruleset found_rules = (found_tree, found_fault)
 
 -- a tree that the tokens of a text spell
 
-pub text_spells : (text : List ℕ) (tokens : List Token) (t : Tree) → tokens_of text ≡ Ok tokens → length tokens ≤ length text → length text ≤ MOST_BYTES → Sentence t tokens → IsSpelled t
+pub text_spells : (text : List ℕ) (tokens : List Token) (t : Tree) → tokens_of text ≡ Ok tokens
+    → length tokens ≤ length text → length text ≤ MOST_BYTES → Sentence t tokens → IsSpelled t
 text_spells text tokens t lexed fewer small spelled = record {
   keeps = read_keeps true text tokens t lexed spelled;
-  few = few_enough MOST_WHENS MOST_BYTES (choices_in (exchange_of_tree t)) (length tokens) (length text) (omega arith) ((tree_least t).long tokens spelled) fewer small;
+  few = few_enough MOST_WHENS MOST_BYTES (choices_in (exchange_of_tree t)) (length tokens) (length text) (omega arith)
+      ((tree_least t).long tokens spelled) fewer small;
 }
 
 -- the same of the tree that was found
-pub all_spelled : (text : List ℕ) (tokens : List Token) (r : Result (Result Tree SourceFault) Memory) → tokens_of text ≡ Ok tokens → length tokens ≤ length text → length text ≤ MOST_BYTES → IfOk r (λ found. IfOk found (λ t. Sentence t tokens)) → IfOk r (λ found. IfOk found IsSpelled)
+pub all_spelled : (text : List ℕ) (tokens : List Token) (r : Result (Result Tree SourceFault) Memory)
+    → tokens_of text ≡ Ok tokens → length tokens ≤ length text → length text ≤ MOST_BYTES
+    → IfOk r (λ found. IfOk found (λ t. Sentence t tokens)) → IfOk r (λ found. IfOk found IsSpelled)
 all_spelled text tokens (Ok (Ok t)) lexed fewer small spelled = text_spells text tokens t lexed fewer small spelled
 all_spelled text tokens (Ok (Err f)) lexed fewer small spelled = tt
 all_spelled text tokens (Err m) lexed fewer small spelled = tt
 
-pub all_found : (text : List ℕ) (tokens : List Token) (r : Result (Result Tree SourceFault) Memory) → tokens_of text ≡ Ok tokens → Finds (tree_of_tokens text tokens) r → Finds (tree_of_lexed text (tokens_of text)) r
+pub all_found : (text : List ℕ) (tokens : List Token) (r : Result (Result Tree SourceFault) Memory)
+    → tokens_of text ≡ Ok tokens → Finds (tree_of_tokens text tokens) r → Finds (tree_of_lexed text (tokens_of text)) r
 all_found text tokens r lexed found = subst (λ l. Finds (tree_of_lexed text l) r) (sym lexed) found
 
 -- ## A text has at most as many tokens as bytes
@@ -122,24 +139,31 @@ more_few : (n : ℕ) (r : Lexed) → AreFew n r → AreFew (suc n) r
 more_few n r few tokens e = let le = few tokens e in omega (arith, le)
 
 put_few : (n : ℕ) (t : Token) (r : Lexed) → AreFew n r → AreFew (suc n) (put t r)
-put_few n t (Ok ts) few tokens e = let le = few ts refl in let same : suc (length ts) ≡ length tokens = ap length (same_Some (t ∷ ts) tokens (ap result_ok e)) in omega (arith, le, same)
+put_few n t (Ok ts) few tokens e = let le = few ts refl in let same : suc (length ts)
+    ≡ length tokens = ap length (same_Some (t ∷ ts) tokens (ap result_ok e)) in omega (arith, le, same)
 put_few n t (Err f) few tokens e = absurd (none-some tokens (ap result_ok e))
 
 kind_few : (n : ℕ) (k : Result TokenKind LexFault) (offset line : ℕ) (r : Lexed) → AreFew n r → AreFew (suc n) (with_kind k offset line r)
 kind_few n (Ok kind) offset line r few tokens e = put_few n (record { kind = kind; line = line; offset = offset }) r few tokens e
 kind_few n (Err f) offset line r few tokens e = absurd (none-some tokens (ap result_ok e))
 
-mark_few : (n : ℕ) (m : Option (ℕ × Bool)) (offset line : ℕ) (follow : Mode → Lexed) → ((mode : Mode) → AreFew n (follow mode)) → AreFew (suc n) (with_mark m offset line follow)
+mark_few : (n : ℕ) (m : Option (ℕ × Bool)) (offset line : ℕ) (follow : Mode → Lexed)
+    → ((mode : Mode) → AreFew n (follow mode)) → AreFew (suc n) (with_mark m offset line follow)
 mark_few n None offset line follow few tokens e = absurd (none-some tokens (ap result_ok e))
-mark_few n (Some mark) offset line follow few tokens e = put_few n (record { kind = kinds.Mark mark.0; line = line; offset = offset }) (follow (if mark.1 then InMark else Between)) (few (if mark.1 then InMark else Between)) tokens e
+mark_few n (Some mark) offset line follow few tokens e = put_few n
+    (record { kind = kinds.Mark mark.0; line = line; offset = offset }) (follow (if mark.1 then InMark else Between))
+    (few (if mark.1 then InMark else Between)) tokens e
 
-begins_few : (n : ℕ) (follow : Mode → ℕ → Lexed) → ((mode : Mode) (line : ℕ) → AreFew n (follow mode line)) → (offset line b : ℕ) (rest : List ℕ) → AreFew (suc n) (begins follow offset line b rest)
+begins_few : (n : ℕ) (follow : Mode → ℕ → Lexed) → ((mode : Mode) (line : ℕ) → AreFew n (follow mode line))
+    → (offset line b : ℕ) (rest : List ℕ) → AreFew (suc n) (begins follow offset line b rest)
 begins_few n follow few offset line b rest tokens =
     pick (nat_eq b 10) (λ e. more_few n (follow Between (line + 1)) (few Between (line + 1)) tokens e) (
     pick (is_blank b) (λ e. more_few n (follow Between line) (few Between line) tokens e) (
     pick (nat_eq b 33) (λ e. more_few n (follow Comment line) (few Comment line) tokens e) (
-    pick (is_ascii_uppercase b) (λ e. kind_few n (word_kind (b ∷ take_while in_word rest) offset line) offset line (follow InWord line) (few InWord line) tokens e) (
-    pick (is_ascii_digit b) (λ e. kind_few n (number_kind (b ∷ take_while is_ascii_digit rest) offset line) offset line (follow InDigits line) (few InDigits line) tokens e) (λ e.
+    pick (is_ascii_uppercase b) (λ e. kind_few n (word_kind (b ∷ take_while in_word rest) offset line) offset line
+    (follow InWord line) (few InWord line) tokens e) (
+    pick (is_ascii_digit b) (λ e. kind_few n (number_kind (b ∷ take_while is_ascii_digit rest) offset line) offset line
+    (follow InDigits line) (few InDigits line) tokens e) (λ e.
     mark_few n (mark_of b rest) offset line (λ mode. follow mode line) (λ mode. few mode line) tokens e)))))
 
 nothing_few : AreFew 0 (Ok [])
@@ -153,10 +177,20 @@ lexed_few InWord n line [] tokens e = nothing_few tokens e
 lexed_few InDigits n line [] tokens e = nothing_few tokens e
 lexed_few InMark n line [] tokens e = nothing_few tokens e
 lexed_few InMark n line (b ∷ rest) tokens e = more_few (length rest) (lexed Between n line rest) (lexed_few Between n line rest) tokens e
-lexed_few Between n line (b ∷ rest) tokens e = begins_few (length rest) (λ k l. lexed k n l rest) (λ k l. lexed_few k n l rest) (n - length (b ∷ rest)) line b rest tokens e
-lexed_few Comment n line (b ∷ rest) tokens h = pick (stays_in Comment b) (λ e. more_few (length rest) (lexed Comment n line rest) (lexed_few Comment n line rest) tokens e) (λ e. begins_few (length rest) (λ k l. lexed k n l rest) (λ k l. lexed_few k n l rest) (n - length (b ∷ rest)) line b rest tokens e) h
-lexed_few InWord n line (b ∷ rest) tokens h = pick (stays_in InWord b) (λ e. more_few (length rest) (lexed InWord n line rest) (lexed_few InWord n line rest) tokens e) (λ e. begins_few (length rest) (λ k l. lexed k n l rest) (λ k l. lexed_few k n l rest) (n - length (b ∷ rest)) line b rest tokens e) h
-lexed_few InDigits n line (b ∷ rest) tokens h = pick (stays_in InDigits b) (λ e. more_few (length rest) (lexed InDigits n line rest) (lexed_few InDigits n line rest) tokens e) (λ e. begins_few (length rest) (λ k l. lexed k n l rest) (λ k l. lexed_few k n l rest) (n - length (b ∷ rest)) line b rest tokens e) h
+lexed_few Between n line (b ∷ rest) tokens e = begins_few (length rest) (λ k l. lexed k n l rest)
+    (λ k l. lexed_few k n l rest) (n - length (b ∷ rest)) line b rest tokens e
+lexed_few Comment n line (b ∷ rest) tokens h = pick (stays_in Comment b)
+    (λ e. more_few (length rest) (lexed Comment n line rest) (lexed_few Comment n line rest) tokens e)
+    (λ e. begins_few (length rest) (λ k l. lexed k n l rest) (λ k l. lexed_few k n l rest) (n - length (b ∷ rest)) line
+    b rest tokens e) h
+lexed_few InWord n line (b ∷ rest) tokens h = pick (stays_in InWord b)
+    (λ e. more_few (length rest) (lexed InWord n line rest) (lexed_few InWord n line rest) tokens e)
+    (λ e. begins_few (length rest) (λ k l. lexed k n l rest) (λ k l. lexed_few k n l rest) (n - length (b ∷ rest)) line
+    b rest tokens e) h
+lexed_few InDigits n line (b ∷ rest) tokens h = pick (stays_in InDigits b)
+    (λ e. more_few (length rest) (lexed InDigits n line rest) (lexed_few InDigits n line rest) tokens e)
+    (λ e. begins_few (length rest) (λ k l. lexed k n l rest) (λ k l. lexed_few k n l rest) (n - length (b ∷ rest)) line
+    b rest tokens e) h
 
 pub tokens_few : (text : List ℕ) (tokens : List Token) → tokens_of text ≡ Ok tokens → length tokens ≤ length text
 unfolding tokens_of
@@ -198,7 +232,9 @@ signals_plain number (s ∷ rest) keeps =
     let own = kinds_of number s in
     let more = signals_from (number + length own) rest in
     subst (AllByRecursion IsPlainWord) (sym (map-append signal_name own more))
-    (all_append IsPlainWord (map signal_name own) (map signal_name more) (shape_plain number s.name.name s.shape.kind (name_plain s.name.name keeps.0.0) keeps.0.1) (signals_plain (number + length own) rest keeps.1))
+    (all_append IsPlainWord (map signal_name own) (map signal_name more)
+    (shape_plain number s.name.name s.shape.kind (name_plain s.name.name keeps.0.0) keeps.0.1)
+    (signals_plain (number + length own) rest keeps.1))
 
 -- the blocks of a text
 
@@ -206,7 +242,9 @@ block_name : (signals : List SignalKind) (blocks : List TreeBlock) (first : Firs
 unfolding typed_of
 block_name signals blocks first b = refl
 
-blocks_plain : (signals : List SignalKind) (blocks : List TreeBlock) (first : First) (rest : List TreeBlock) → Every (KeepsBlock MOST_BRACKETS MOST_NESTED) rest → AllByRecursion IsPlainWord (map (λ (k : Block). k.name) (typed_from signals blocks first rest))
+blocks_plain : (signals : List SignalKind) (blocks : List TreeBlock) (first : First) (rest : List TreeBlock)
+    → Every (KeepsBlock MOST_BRACKETS MOST_NESTED) rest
+    → AllByRecursion IsPlainWord (map (λ (k : Block). k.name) (typed_from signals blocks first rest))
 unfolding typed_from
 blocks_plain signals blocks first [] keeps = tt
 blocks_plain signals blocks first (b ∷ rest) keeps = (
@@ -245,7 +283,8 @@ read by (Ok b) a e = ap Ok (same_Some b a (ap result_ok e))
 read by (Err f) a e = absurd (none-some a (ap result_ok e))
 
 module _ (text : List ℕ) (t : Tree) (small : length text ≤ MOST_BYTES) where
-  parses : (tokens : List Token) (r : Result Tree ParseFault) → tokens_of text ≡ Ok tokens → parsed tokens ≡ r → tree_or_fault text tokens r ≡ Ok t → IsSpelled t
+  parses : (tokens : List Token) (r : Result Tree ParseFault) → tokens_of text ≡ Ok tokens → parsed tokens ≡ r
+      → tree_or_fault text tokens r ≡ Ok t → IsSpelled t
   parses tokens (Err f) lexes is e = absurd (none-some t (ap result_ok e))
   parses tokens (Ok s) lexes is e =
       text_spells text tokens t lexes (tokens_few text tokens lexes) small ((ok_exactly tokens t).0 (is ∙ ap Ok (same_Some s t (ap result_ok e))))
@@ -289,7 +328,8 @@ means text (Ok t) x small is e =
     }
 
 pub accepted : (which : Which) (name : List ℕ) (files : Files) (x : Exchange) → exchange_as which name files ≡ Ok x → IsAccepted x
-accepted which name files x e = let a = gone_on (text_at name files) (exchange_of_file which) x e in by a.0 a.1 (read (source_refusal which) (exchange_of_text a.0) x a.2)
+accepted which name files x e = let a = gone_on (text_at name files) (exchange_of_file which) x e in by a.0 a.1
+    (read (source_refusal which) (exchange_of_text a.0) x a.2)
   where
     by : (o : Option (List ℕ)) → text_at name files ≡ Ok o → exchange_of_text o ≡ Ok x → IsAccepted x
     by None held e = absurd (none-some x (ap result_ok e))

@@ -1,5 +1,7 @@
 -- From what a command comes to, to the answer and the end.
-use Rattle.std.proofs.Common.{◌≡◌, ℕ, List, Option, Some, None, Result, Ok, Err, IfOk, IfSome, IsSomeAnd, ◌⊎◌, ap, refl, sym, subst, ◌∙◌, inl, inr, ◌+◌, ◌<◌, ◌≤◌, ◌++◌, length, take, arith, min, append-nil}
+use Rattle.std.proofs.Common.{◌≡◌, ℕ, List, Option, Some, None, Result, Ok, Err, IfOk, IfSome}
+use Rattle.std.proofs.Common.{IsSomeAnd, ◌⊎◌, ap, refl, sym, subst, ◌∙◌, inl, inr, ◌+◌, ◌<◌, ◌≤◌}
+use Rattle.std.proofs.Common.{◌++◌, length, take, arith, min, append-nil}
 use Rattle.std.specs.Result.{result_ok}
 use Rattle.std.proofs.lemmas.Option.{none-some, same_Some}
 use Rattle.plex_io.specs.Causes.{Rose}
@@ -8,7 +10,9 @@ use Rattle.command_words.specs.Words.{Word, shape}
 use Rattle.answer_meaning.specs.Outcome.{Out, not_held}
 use Rattle.answer_meaning.specs.Stages.{IsRefusal, Performs, ReadAs}
 use Rattle.answer_meaning.specs.Answer.{IsAnswer, IsAnswerBy, answer_of, performed, usage_answer}
-use Rattle.answer_meaning.specs.Program.{Answers, ProcessEnds, ProcessEndsAs, IsComplete, IsEnding, IsMade, WritesText, Makes, ReadCause, WriteCause, IsWritten}
+use Rattle.answer_meaning.specs.Program.{Answers, ProcessEnds, ProcessEndsAs, IsComplete, IsEnding}
+use Rattle.answer_meaning.specs.Program.{IsMade, WritesText, Makes, ReadCause, WriteCause}
+use Rattle.answer_meaning.specs.Program.{IsWritten}
 use Rattle.command_words.specs.declared.command.Command.{Command}
 use Rattle.answer_meaning.specs.declared.answer.Answer.{Answer}
 use Rattle.answer_meaning.specs.declared.answer.Stop.{Stop}
@@ -30,37 +34,52 @@ unfolding IsSomething
 some_none c e = subst IsSomething e tt
 
 -- an end with an answer, as one of those that are such
-ends_as : (Is : Answer → Type 0) (a : Answer) (before after : Option (List ℕ)) (s : Status) → Is a → ProcessEnds a before after s → ProcessEndsAs Is before after s
+ends_as : (Is : Answer → Type 0) (a : Answer) (before after : Option (List ℕ)) (s : Status) → Is a
+    → ProcessEnds a before after s → ProcessEndsAs Is before after s
 ends_as Is a before after status.Read is ends = tt
 ends_as Is a before after status.Memory is ends = tt
 ends_as Is a before after s is ends = record { answer = a; is = is; ends = ends }
 
-pub ends_held : (Is : Files → Answer → Type 0) (held : Option Files) (a : Answer) (before after : Option (List ℕ)) (s : Status) → IfSome held (λ files. Is files a) → ProcessEnds a before after s → IfSome held (λ files. ProcessEndsAs (Is files) before after s)
+pub ends_held : (Is : Files → Answer → Type 0) (held : Option Files) (a : Answer) (before after : Option (List ℕ))
+    (s : Status) → IfSome held (λ files. Is files a) → ProcessEnds a before after s
+    → IfSome held (λ files. ProcessEndsAs (Is files) before after s)
 ends_held Is None a before after s is ends = tt
 ends_held Is (Some files) a before after s is ends = ends_as (Is files) a before after s is ends
 
 -- the answer was written, and then its status comes but where a write failed
-pub complete_written : (Is : Files → Answer → Type 0) (held : Option Files) (a : Answer) (size : Option ℕ) (written : Option (List ℕ)) (shelf shelf' sink sink' : ℕ) (s : Status) → IfSome held (λ files. Is files a) → (s ≡ status.Write → WriteCause size written sink sink') → (s ≡ status.Write) ⊎ (s ≡ a.status) → IfSome held (λ files. IsComplete (Is files) shelf shelf' sink sink' s)
+pub complete_written : (Is : Files → Answer → Type 0) (held : Option Files) (a : Answer) (size : Option ℕ)
+    (written : Option (List ℕ)) (shelf shelf' sink sink' : ℕ) (s : Status) → IfSome held (λ files. Is files a)
+    → (s ≡ status.Write → WriteCause size written sink sink') → (s ≡ status.Write) ⊎ (s ≡ a.status)
+    → IfSome held (λ files. IsComplete (Is files) shelf shelf' sink sink' s)
 complete_written Is None a size written shelf shelf' sink sink' s is cause either = tt
 complete_written Is (Some files) a size written shelf shelf' sink sink' s is cause (inl failed) = λ no_read no_write. absurd (no_write ((cause failed).cause))
-complete_written Is (Some files) a size written shelf shelf' sink sink' s is cause (inr same) = λ no_read no_write. inl (record { answer = a; is = is; status = same })
+complete_written Is (Some files) a size written shelf shelf' sink sink' s is cause (inr same) =
+    λ no_read no_write. inl (record { answer = a; is = is; status = same })
 
 -- a read failed, or a file is not held
-pub complete_failed : (Is : Files → Answer → Type 0) (held : Option Files) (shelf shelf' sink sink' : ℕ) → Rose shelf shelf' → IfSome held (λ files. IsComplete (Is files) shelf shelf' sink sink' status.Read)
+pub complete_failed : (Is : Files → Answer → Type 0) (held : Option Files) (shelf shelf' sink sink' : ℕ)
+    → Rose shelf shelf' → IfSome held (λ files. IsComplete (Is files) shelf shelf' sink sink' status.Read)
 complete_failed Is None shelf shelf' sink sink' rose = tt
 complete_failed Is (Some files) shelf shelf' sink sink' rose = λ no_read no_write. absurd (no_read rose)
 
-pub complete_absent : (Is : Files → Answer → Type 0) (held : Option Files) (shelf shelf' sink sink' : ℕ) → IsSomeAnd held (λ files. Is files not_held) → IfSome held (λ files. IsComplete (Is files) shelf shelf' sink sink' status.Read)
+pub complete_absent : (Is : Files → Answer → Type 0) (held : Option Files) (shelf shelf' sink sink' : ℕ)
+    → IsSomeAnd held (λ files. Is files not_held)
+    → IfSome held (λ files. IsComplete (Is files) shelf shelf' sink sink' status.Read)
 complete_absent Is None shelf shelf' sink sink' is = tt
 complete_absent Is (Some files) shelf shelf' sink sink' is = λ no_read no_write. inl (record { answer = not_held; is = is; status = refl })
 
-pub read_failed : (Is : Files → Answer → Type 0) (held : Option Files) (faults faults' : ℕ) (before after : Option (List ℕ)) → Rose faults faults' → after ≡ before → ReadCause Is held faults faults' before after
+pub read_failed : (Is : Files → Answer → Type 0) (held : Option Files) (faults faults' : ℕ)
+    (before after : Option (List ℕ)) → Rose faults faults' → after ≡ before
+    → ReadCause Is held faults faults' before after
 read_failed Is held faults faults' before after rose silent = record { cause = inl rose; silent = silent }
 
-pub read_absent : (Is : Files → Answer → Type 0) (held : Option Files) (faults faults' : ℕ) (before after : Option (List ℕ)) → IsSomeAnd held (λ files. Is files not_held) → after ≡ before → ReadCause Is held faults faults' before after
+pub read_absent : (Is : Files → Answer → Type 0) (held : Option Files) (faults faults' : ℕ)
+    (before after : Option (List ℕ)) → IsSomeAnd held (λ files. Is files not_held) → after ≡ before
+    → ReadCause Is held faults faults' before after
 read_absent Is held faults faults' before after is silent = record { cause = inr is; silent = silent }
 
-pub complete_memory : (Is : Files → Answer → Type 0) (held : Option Files) (shelf shelf' sink sink' : ℕ) → IfSome held (λ files. IsComplete (Is files) shelf shelf' sink sink' status.Memory)
+pub complete_memory : (Is : Files → Answer → Type 0) (held : Option Files) (shelf shelf' sink sink' : ℕ)
+    → IfSome held (λ files. IsComplete (Is files) shelf shelf' sink sink' status.Memory)
 complete_memory Is None shelf shelf' sink sink' = tt
 complete_memory Is (Some files) shelf shelf' sink sink' = λ no_read no_write. inr refl
 
@@ -69,16 +88,22 @@ answer_is : (words : List Word) (c : Command) (files : Files) (o : Out Answer) �
 unfolding IsAnswer
 answer_is words c files o e p = subst (λ s. IsAnswerBy s files (answer_of o)) e (record { outcome = o; comes = p; told = refl })
 
-pub answers_command : (held : Option Files) (words : List Word) (c : Command) (b a : ℕ) (r : Result Answer Stop) → Some c ≡ shape words → Performs held (performed c) b a r → Answers (IsAnswer words) held b a r
-answers_command held words c b a r e p = performs_as held (performed c) (λ files o. IsAnswer words files (answer_of o)) b a r (λ files o comes. answer_is words c files o e comes) p
+pub answers_command : (held : Option Files) (words : List Word) (c : Command) (b a : ℕ) (r : Result Answer Stop)
+    → Some c ≡ shape words → Performs held (performed c) b a r → Answers (IsAnswer words) held b a r
+answers_command held words c b a r e p = performs_as held (performed c) (λ files o. IsAnswer words files (answer_of o))
+    b a r (λ files o comes. answer_is words c files o e comes) p
 
 -- no words of a command
 usage_is : (words : List Word) (files : Files) (a : Answer) → None ≡ shape words → usage_answer ≡ a → IsAnswer words files a
 unfolding IsAnswer
 usage_is words files a e is = subst (λ s. IsAnswerBy s files a) e is
 
-pub answers_usage : (held : Option Files) (words : List Word) (n : ℕ) (r : Result Answer Stop) → None ≡ shape words → ReadAs (Ok usage_answer) r → Answers (IsAnswer words) held n n r
-answers_usage held words n r e reads = performs_as held (λ files o. Ok usage_answer ≡ o) (λ files o. IsAnswer words files (answer_of o)) n n r (λ files o is. usage_is words files (answer_of o) e (ap answer_of is)) (performs_told held (λ o. Ok usage_answer ≡ o) n r reads)
+pub answers_usage : (held : Option Files) (words : List Word) (n : ℕ) (r : Result Answer Stop) → None ≡ shape words
+    → ReadAs (Ok usage_answer) r → Answers (IsAnswer words) held n n r
+answers_usage held words n r e reads = performs_as held (λ files o. Ok usage_answer ≡ o)
+    (λ files o. IsAnswer words files (answer_of o)) n n r
+    (λ files o is. usage_is words files (answer_of o) e (ap answer_of is))
+    (performs_told held (λ o. Ok usage_answer ≡ o) n r reads)
 
 -- the status of a run
 plain_ending : (s : Status) → IsEnding s → WritesText s
@@ -98,20 +123,29 @@ plain_refusal status.Filter e = tt
 plain_refusal s e = absurd e
 
 pub made_ending : (Unshaped : Type 0) (usage_line a : Answer) → (Unshaped → ⊥) → IsEnding a.status → IsMade Unshaped usage_line a
-made_ending Unshaped usage_line a shaped is = record { plain = plain_ending a.status is; usage = λ u. absurd (subst IsEnding u is); unshaped = λ no. absurd (shaped no) }
+made_ending Unshaped usage_line a shaped is = record
+    { plain = plain_ending a.status is; usage = λ u. absurd (subst IsEnding u is); unshaped = λ no. absurd (shaped no) }
 
 pub made_refusal : (Unshaped : Type 0) (usage_line a : Answer) → (Unshaped → ⊥) → IsRefusal a.status → IsMade Unshaped usage_line a
-made_refusal Unshaped usage_line a shaped is = record { plain = plain_refusal a.status is; usage = λ u. absurd (subst IsRefusal u is); unshaped = λ no. absurd (shaped no) }
+made_refusal Unshaped usage_line a shaped is = record {
+  plain = plain_refusal a.status is;
+  usage = λ u. absurd (subst IsRefusal u is);
+  unshaped = λ no. absurd (shaped no);
+}
 
 -- the answer of a stage is that of an ending or of a refusal
-pub makes_told : (Unshaped : Type 0) (usage_line : Answer) (held : Option Files) (work : Files → Out Answer → Type 0) (b a : ℕ) (r : Result Answer Stop) → (Unshaped → ⊥) → Performs held work b a r → IfOk r (λ a. IsEnding a.status) → Makes Unshaped usage_line r
+pub makes_told : (Unshaped : Type 0) (usage_line : Answer) (held : Option Files) (work : Files → Out Answer → Type 0)
+    (b a : ℕ) (r : Result Answer Stop) → (Unshaped → ⊥) → Performs held work b a r → IfOk r (λ a. IsEnding a.status)
+    → Makes Unshaped usage_line r
 makes_told Unshaped usage_line held work b a (Ok v) shaped p ends = made_ending Unshaped usage_line v shaped ends
 makes_told Unshaped usage_line held work b a (Err (stop.Told v)) shaped p ends = made_refusal Unshaped usage_line v shaped p.stops.0
 makes_told Unshaped usage_line held work b a (Err stop.NotHeld) shaped p ends = tt
 makes_told Unshaped usage_line held work b a (Err stop.Failed) shaped p ends = tt
 makes_told Unshaped usage_line held work b a (Err stop.Memory) shaped p ends = tt
 
-pub makes_command : (held : Option Files) (words : List Word) (c : Command) (b a : ℕ) (r : Result Answer Stop) → Some c ≡ shape words → Performs held (performed c) b a r → IfOk r (λ a. IsEnding a.status) → Makes (shape words ≡ None) usage_answer r
+pub makes_command : (held : Option Files) (words : List Word) (c : Command) (b a : ℕ) (r : Result Answer Stop)
+    → Some c ≡ shape words → Performs held (performed c) b a r → IfOk r (λ a. IsEnding a.status)
+    → Makes (shape words ≡ None) usage_answer r
 makes_command held words c b a r e p ends = makes_told (shape words ≡ None) usage_answer held (performed c) b a r (λ none. some_none c (e ∙ none)) p ends
 
 pub makes_usage : (Unshaped : Type 0) (a : Answer) (r : Result Answer Stop) → Unshaped → a.status ≡ status.Usage → ReadAs (Ok a) r → Makes Unshaped a r
@@ -127,7 +161,8 @@ pub ruleset answering = (answers_command, answers_usage, makes_command, makes_us
 
 pub ruleset ending = (ends_held, complete_written, complete_failed, complete_absent, complete_memory, read_failed, read_absent)
 
--- ## Devices that never fail: each end is that of the answer, where there is room for its text, or memory was refused
+-- ## Devices that never fail: each end is that of the answer, where there is room for its text, or
+-- memory was refused
 
 -- a proper front of the text was written, and the sink is full: then it had no room for the whole
 no_room : (old new text : List ℕ) (size : ℕ) → WroteLess (Some old) (Some new) text → size ≤ length new → length old + length text ≤ size → ⊥
@@ -144,7 +179,8 @@ stays : Rose 0 0 → ⊥
 stays rose = omega (arith, rose)
 
 -- the answer is that a file is not held, and nothing was written
-not_read : (words : List Word) (files : Files) (old new : List ℕ) → Rose 0 0 ⊎ IsAnswer words files not_held → new ≡ old → IsWhole (IsAnswer words files) old new status.Read
+not_read : (words : List Word) (files : Files) (old new : List ℕ) → Rose 0 0 ⊎ IsAnswer words files not_held → new ≡ old
+    → IsWhole (IsAnswer words files) old new status.Read
 not_read words files old new (inl rose) silent = absurd (stays rose)
 not_read words files old new (inr is) silent = record { answer = not_held; is = is; status = refl; text = silent ∙ sym (append-nil old) }
 
@@ -152,10 +188,16 @@ not_read words files old new (inr is) silent = record { answer = not_held; is = 
 written : (Is : Answer → Type 0) (old new : List ℕ) (s : Status) (a : Answer) → Is a → IsWritten a (Some old) (Some new) s → IsWhole Is old new s
 written Is old new s a is w = record { answer = a; is = is; status = w.status; text = same_Some _ _ w.text }
 
-pub whole_end : (words : List Word) (files : Files) (old new : SteadyState) (s : Status) → ProcessEndsAs (IsAnswer words files) (Some old.bytes) (Some new.bytes) s → (s ≡ status.Read → ReadCause (IsAnswer words) (Some files) 0 0 (Some old.bytes) (Some new.bytes)) → (s ≡ status.Write → WriteCause (Some old.size) (Some new.bytes) old.faults new.faults) → HasRoom (IsAnswer words files) old → (s ≡ status.Memory) ⊎ IsWhole (IsAnswer words files) old.bytes new.bytes s
+pub whole_end : (words : List Word) (files : Files) (old new : SteadyState) (s : Status)
+    → ProcessEndsAs (IsAnswer words files) (Some old.bytes) (Some new.bytes) s
+    → (s ≡ status.Read → ReadCause (IsAnswer words) (Some files) 0 0 (Some old.bytes) (Some new.bytes))
+    → (s ≡ status.Write → WriteCause (Some old.size) (Some new.bytes) old.faults new.faults)
+    → HasRoom (IsAnswer words files) old → (s ≡ status.Memory) ⊎ IsWhole (IsAnswer words files) old.bytes new.bytes s
 whole_end words files old new status.Memory ends read write room = inl refl
-whole_end words files old new status.Read ends read write room = inr (not_read words files old.bytes new.bytes (read refl).cause (same_Some _ _ (read refl).silent))
-whole_end words files old new status.Write ends read write room = absurd (no_room old.bytes new.bytes ends.answer.text old.size ends.ends (write refl).full (room ends.answer ends.is))
+whole_end words files old new status.Read ends read write room = inr
+    (not_read words files old.bytes new.bytes (read refl).cause (same_Some _ _ (read refl).silent))
+whole_end words files old new status.Write ends read write room = absurd
+    (no_room old.bytes new.bytes ends.answer.text old.size ends.ends (write refl).full (room ends.answer ends.is))
 whole_end words files old new status.Done ends read write room = inr (written _ _ _ _ ends.answer ends.is ends.ends)
 whole_end words files old new status.Usage ends read write room = inr (written _ _ _ _ ends.answer ends.is ends.ends)
 whole_end words files old new status.Source ends read write room = inr (written _ _ _ _ ends.answer ends.is ends.ends)

@@ -1,12 +1,15 @@
 -- Stages, one after the other, and what refusals make of them.
-use Rattle.std.proofs.Common.{◌≡◌, ℕ, ◌+◌, ◌<◌, ◌≤◌, Bool, true, false, nat_lt, List, length, take, Option, Some, None, Result, Ok, Err, IfSome, IsSomeAnd, refl, sym, subst, ap, ◌∙◌, ◌++◌, append_assoc, IfOk, arith, min}
+use Rattle.std.proofs.Common.{◌≡◌, ℕ, ◌+◌, ◌<◌, ◌≤◌, Bool, true, false, nat_lt, List, length, take}
+use Rattle.std.proofs.Common.{Option, Some, None, Result, Ok, Err, IfSome, IsSomeAnd, refl, sym}
+use Rattle.std.proofs.Common.{subst, ap, ◌∙◌, ◌++◌, append_assoc, IfOk, arith, min}
 use Rattle.std.proofs.lemmas.List.{take_all, length-take}
 use Rattle.std.proofs.lemmas.Bool.{lt-ltb, le-ltb}
 use Rattle.std.proofs.lemmas.Bool.Decides.{nat_tests}
 use Rattle.plex_io.specs.Files.{Files, ReadGives, Lacks}
 use Rattle.plex_limits.specs.declared.limits.TheConstants.{MOST_BYTES}
 use Rattle.answer_meaning.specs.Outcome.{ComesOf, Out, goes_on, not_held, or_refused}
-use Rattle.answer_meaning.specs.Stages.{Comes, IsStopOf, IsStopWith, Performs, ReadAs, StopsBy, TellsOutcome}
+use Rattle.answer_meaning.specs.Stages.{Comes, IsStopOf, IsStopWith, Performs, ReadAs, StopsBy}
+use Rattle.answer_meaning.specs.Stages.{TellsOutcome}
 use Rattle.answer_meaning.specs.Given.{fitting, text_of_file, text_at}
 use Rattle.answer_meaning.specs.declared.answer.Answer.{Answer}
 use Rattle.answer_meaning.specs.declared.answer.Stop.{Stop}
@@ -20,7 +23,8 @@ use Rattle.checked.specs.Kept.{KeptSummaries}
 use Rattle.certificate_meaning.proofs.Judging.{accepted_is_checked}
 use Rattle.answer_meaning.specs.Text.{certificate_refusal}
 use Rattle.answer_meaning.specs.RunAnswer.{IsCertifiedRun}
-use Rattle.answer_meaning.specs.Certificates.{IsAcceptedOrNot, IsJudged, IsKeptOrNot, large, bad, read}
+use Rattle.answer_meaning.specs.Certificates.{IsAcceptedOrNot, IsJudged, IsKeptOrNot, large, bad}
+use Rattle.answer_meaning.specs.Certificates.{read}
 use Rattle.answer_meaning.specs.declared.fault.CertificateFault.{CertificateFault}
 use Rattle.answer_meaning.specs.declared.fault.CertificateFault.TheVariants.{BadText, TooLarge}
 
@@ -47,7 +51,9 @@ read_fits limit bytes got e = by (nat_lt limit (length got)) refl
         ap (fitting limit) (sym (e ∙ take_all (limit + 1) bytes (let n = size in omega (arith, n, short))))
 
 -- the text of a file
-pub text_comes : (held : Option Files) (name got : List ℕ) (kept : Option (List ℕ)) (b a : ℕ) → IfSome held (λ f. ReadGives (f name) MOST_BYTES got) → kept ≡ fitting MOST_BYTES got → b ≤ a → Comes held (text_at name) b a (Ok kept)
+pub text_comes : (held : Option Files) (name got : List ℕ) (kept : Option (List ℕ)) (b a : ℕ)
+    → IfSome held (λ f. ReadGives (f name) MOST_BYTES got) → kept ≡ fitting MOST_BYTES got → b ≤ a
+    → Comes held (text_at name) b a (Ok kept)
 text_comes held name got kept b a given is later = record { ok = by held given; stops = tt; later = later }
   where
     of : (o : Option (List ℕ)) → ReadGives o MOST_BYTES got → text_of_file o ≡ Ok kept
@@ -64,7 +70,9 @@ text_absent None name e = absurd e
 text_absent (Some files) name e = rw e refl
 
 -- a stage that stops, before what comes of it
-stops_on : {A B : Type 0} (held : Option Files) (was : Files → Out A → Type 0) (work : Files → Out B → Type 0) (b a : ℕ) (e : Stop) → ((files : Files) (r : Answer) → was files (Err r) → work files (Err r)) → StopsBy held was b a e → StopsBy held work b a e
+stops_on : {A B : Type 0} (held : Option Files) (was : Files → Out A → Type 0) (work : Files → Out B → Type 0) (b a : ℕ)
+    (e : Stop) → ((files : Files) (r : Answer) → was files (Err r) → work files (Err r)) → StopsBy held was b a e
+    → StopsBy held work b a e
 stops_on None was work b a (stop.Told r) so s = (s.0, tt)
 stops_on (Some files) was work b a (stop.Told r) so s = (s.0, so files r s.1)
 stops_on None was work b a stop.NotHeld so s = s
@@ -72,26 +80,32 @@ stops_on (Some files) was work b a stop.NotHeld so s = so files not_held s
 stops_on held was work b a stop.Failed so s = s
 stops_on held was work b a stop.Memory so s = tt
 
-stopped : {A B : Type 0} (held : Option Files) (f : Files → Out A) (work : Files → Out B → Type 0) (b a : ℕ) (e : Stop) → ((files : Files) (r : Answer) → f files ≡ Err r → work files (Err r)) → Comes held f b a (Err e) → Performs held work b a (Err e)
+stopped : {A B : Type 0} (held : Option Files) (f : Files → Out A) (work : Files → Out B → Type 0) (b a : ℕ) (e : Stop)
+    → ((files : Files) (r : Answer) → f files ≡ Err r → work files (Err r)) → Comes held f b a (Err e)
+    → Performs held work b a (Err e)
 stopped held f work b a e so c = record { ok = tt; stops = stops_on held (λ files o. f files ≡ o) work b a e so c.stops; later = c.later }
 
 -- a stage, and what comes of its value
-went_on : {A B : Type 0} (held : Option Files) (f : Files → Out A) (next work : Files → Out B → Type 0) (b m a : ℕ) (v : A) (r : Result B Stop) → ((files : Files) (o : Out B) → f files ≡ Ok v → next files o → work files o) → Comes held f b m (Ok v) → Performs held next m a r → Performs held work b a r
+went_on : {A B : Type 0} (held : Option Files) (f : Files → Out A) (next work : Files → Out B → Type 0) (b m a : ℕ)
+    (v : A) (r : Result B Stop) → ((files : Files) (o : Out B) → f files ≡ Ok v → next files o → work files o)
+    → Comes held f b m (Ok v) → Performs held next m a r → Performs held work b a r
 went_on held f next work b m a v (Ok w) so c d = record { ok = by held c.ok d.ok; stops = tt; later = omega (arith, c.later, d.later) } where
   by : (h : Option Files) → IfSome h (λ files. f files ≡ Ok v) → IfSome h (λ files. next files (Ok w)) → IfSome h (λ files. work files (Ok w))
   by None c d = tt
   by (Some files) c d = so files (Ok w) c d
-went_on {A = A} {B = B} held f next work b m a v (Err e) so c d = record { ok = tt; stops = by held e c.ok c.later d.stops; later = omega (arith, c.later, d.later) } where
-  by : (h : Option Files) (e : Stop) → IfSome h (λ files. f files ≡ Ok v) → b ≤ m → StopsBy {A = B} h next m a e → StopsBy {A = B} h work b a e
-  by None (stop.Told r) c le s = (s.0, tt)
-  by (Some files) (stop.Told r) c le s = (s.0, so files (Err r) c s.1)
-  by None stop.NotHeld c le s = s
-  by (Some files) stop.NotHeld c le s = so files (Err not_held) c s
-  by h stop.Failed c le s = omega (arith, le, s)
-  by h stop.Memory c le s = tt
+went_on {A = A} {B = B} held f next work b m a v (Err e) so c d = record
+    { ok = tt; stops = by held e c.ok c.later d.stops; later = omega (arith, c.later, d.later) } where
+      by : (h : Option Files) (e : Stop) → IfSome h (λ files. f files ≡ Ok v) → b ≤ m → StopsBy {A = B} h next m a e → StopsBy {A = B} h work b a e
+      by None (stop.Told r) c le s = (s.0, tt)
+      by (Some files) (stop.Told r) c le s = (s.0, so files (Err r) c s.1)
+      by None stop.NotHeld c le s = s
+      by (Some files) stop.NotHeld c le s = so files (Err not_held) c s
+      by h stop.Failed c le s = omega (arith, le, s)
+      by h stop.Memory c le s = tt
 
 -- what a command comes to, told in other words
-pub performs_as : {A : Type 0} (held : Option Files) (was work : Files → Out A → Type 0) (b a : ℕ) (r : Result A Stop) → ((files : Files) (o : Out A) → was files o → work files o) → Performs held was b a r → Performs held work b a r
+pub performs_as : {A : Type 0} (held : Option Files) (was work : Files → Out A → Type 0) (b a : ℕ) (r : Result A Stop)
+    → ((files : Files) (o : Out A) → was files o → work files o) → Performs held was b a r → Performs held work b a r
 performs_as held was work b a (Ok v) so c = record { ok = by held c.ok; stops = tt; later = c.later } where
   by : (h : Option Files) → IfSome h (λ files. was files (Ok v)) → IfSome h (λ files. work files (Ok v))
   by None c = tt
@@ -105,11 +119,15 @@ on_err s go r is = ap (λ s. goes_on s go) is
 on_ok : {A B : Type 0} (s : Out A) (go : A → Out B) (v : A) (o : Out B) → s ≡ Ok v → go v ≡ o → goes_on s go ≡ o
 on_ok s go v o is gone = ap (λ s. goes_on s go) is ∙ gone
 
-pub comes_stop : {A B : Type 0} (held : Option Files) (f : Files → Out A) (g : Files → A → Out B) (b a : ℕ) (e : Stop) → Comes held f b a (Err e) → Comes held (λ files. goes_on (f files) (g files)) b a (Err e)
+pub comes_stop : {A B : Type 0} (held : Option Files) (f : Files → Out A) (g : Files → A → Out B) (b a : ℕ) (e : Stop)
+    → Comes held f b a (Err e) → Comes held (λ files. goes_on (f files) (g files)) b a (Err e)
 comes_stop held f g b a e c = stopped held f (λ files o. goes_on (f files) (g files) ≡ o) b a e (λ files r is. on_err (f files) (g files) r is) c
 
-pub comes_go : {A B : Type 0} (held : Option Files) (f : Files → Out A) (g : Files → A → Out B) (b m a : ℕ) (v : A) (r : Result B Stop) → Comes held f b m (Ok v) → Comes held (λ files. g files v) m a r → Comes held (λ files. goes_on (f files) (g files)) b a r
-comes_go held f g b m a v r c d = went_on held f (λ files o. g files v ≡ o) (λ files o. goes_on (f files) (g files) ≡ o) b m a v r (λ files o is gone. on_ok (f files) (g files) v o is gone) c d
+pub comes_go : {A B : Type 0} (held : Option Files) (f : Files → Out A) (g : Files → A → Out B) (b m a : ℕ) (v : A)
+    (r : Result B Stop) → Comes held f b m (Ok v) → Comes held (λ files. g files v) m a r
+    → Comes held (λ files. goes_on (f files) (g files)) b a r
+comes_go held f g b m a v r c d = went_on held f (λ files o. g files v ≡ o) (λ files o. goes_on (f files) (g files) ≡ o)
+    b m a v r (λ files o is gone. on_ok (f files) (g files) v o is gone) c d
 
 -- the same of relations
 goes_err : {A : Type 0} (s : Out A) (Go : A → Out Answer → Type 0) (r : Answer) → s ≡ Err r → ComesOf s Go (Err r)
@@ -118,11 +136,15 @@ goes_err s Go r is = subst (λ s. ComesOf s Go (Err r)) (sym is) refl
 goes_ok : {A : Type 0} (s : Out A) (Go : A → Out Answer → Type 0) (v : A) (o : Out Answer) → s ≡ Ok v → Go v o → ComesOf s Go o
 goes_ok s Go v o is go = subst (λ s. ComesOf s Go o) (sym is) go
 
-pub performs_stop : {A : Type 0} (held : Option Files) (f : Files → Out A) (Go : Files → A → Out Answer → Type 0) (b a : ℕ) (e : Stop) → Comes held f b a (Err e) → Performs held (λ files. ComesOf (f files) (Go files)) b a (Err e)
+pub performs_stop : {A : Type 0} (held : Option Files) (f : Files → Out A) (Go : Files → A → Out Answer → Type 0)
+    (b a : ℕ) (e : Stop) → Comes held f b a (Err e) → Performs held (λ files. ComesOf (f files) (Go files)) b a (Err e)
 performs_stop held f Go b a e c = stopped held f (λ files. ComesOf (f files) (Go files)) b a e (λ files r is. goes_err (f files) (Go files) r is) c
 
-pub performs_go : {A : Type 0} (held : Option Files) (f : Files → Out A) (Go : Files → A → Out Answer → Type 0) (b m a : ℕ) (v : A) (r : Result Answer Stop) → Comes held f b m (Ok v) → Performs held (λ files. Go files v) m a r → Performs held (λ files. ComesOf (f files) (Go files)) b a r
-performs_go held f Go b m a v r c d = went_on held f (λ files. Go files v) (λ files. ComesOf (f files) (Go files)) b m a v r (λ files o is go. goes_ok (f files) (Go files) v o is go) c d
+pub performs_go : {A : Type 0} (held : Option Files) (f : Files → Out A) (Go : Files → A → Out Answer → Type 0)
+    (b m a : ℕ) (v : A) (r : Result Answer Stop) → Comes held f b m (Ok v) → Performs held (λ files. Go files v) m a r
+    → Performs held (λ files. ComesOf (f files) (Go files)) b a r
+performs_go held f Go b m a v r c d = went_on held f (λ files. Go files v) (λ files. ComesOf (f files) (Go files)) b m a
+    v r (λ files o is go. goes_ok (f files) (Go files) v o is go) c d
 
 -- an outcome that needs no file
 pub performs_told : {A : Type 0} (held : Option Files) (Is : Out A → Type 0) (n : ℕ) (r : Result A Stop) → TellsOutcome Is r → Performs held (λ files. Is) n n r
@@ -181,14 +203,16 @@ refused_so said a stop.NotHeld is stops = stops
 refused_so said a stop.Failed is stops = stops
 refused_so said a stop.Memory is stops = tt
 
-pub refused_fault : {A F : Type 0} (by : F → Answer) (said : Result A F) (f : F) (s : Stop) → Err f ≡ said → IsStopOf (by f) s → ReadAs (or_refused by said) (Err s)
+pub refused_fault : {A F : Type 0} (by : F → Answer) (said : Result A F) (f : F) (s : Stop) → Err f ≡ said
+    → IsStopOf (by f) s → ReadAs (or_refused by said) (Err s)
 refused_fault by said f s is stops = refused_so (or_refused by said) (by f) s (ap (or_refused by) (sym is)) stops
 
 pub ruleset refused_rules = (refused_ok, refused_fault, refused_so)
 
 -- the stop that a line of a refusal makes
 
-pub told_so : (s : Status) (said : List ℕ) (line : Result (List ℕ) Memory) (t : Stop) → IfOk line (λ text. text ≡ said) → IsStopWith s line t → IsStopOf (record { status = s; text = said }) t
+pub told_so : (s : Status) (said : List ℕ) (line : Result (List ℕ) Memory) (t : Stop) → IfOk line (λ text. text ≡ said)
+    → IsStopWith s line t → IsStopOf (record { status = s; text = said }) t
 told_so s said (Ok text) t is stops = subst (λ words. IsStopOf (record { status = s; text = words }) t) is stops
 told_so s said (Err m) t is stops = subst (IsStopOf (record { status = s; text = said })) (sym stops) tt
 
@@ -205,13 +229,16 @@ pub judged_bad : (x : Exchange) (text : List ℕ) (line : ℕ) → HasBadLine te
 judged_bad x text line is = bad text line is
 
 -- the verdict on a certificate is that on its text
-pub text_kept : (x : Exchange) (text : List ℕ) (c : Certificate) (r : Result (Result KeptSummaries CertificateFault) Memory) → IsTextOf text c → IfOk r (IsAcceptedOrNot x c) → IfOk r (IsKeptOrNot x (Some text))
+pub text_kept : (x : Exchange) (text : List ℕ) (c : Certificate)
+    (r : Result (Result KeptSummaries CertificateFault) Memory) → IsTextOf text c → IfOk r (IsAcceptedOrNot x c)
+    → IfOk r (IsKeptOrNot x (Some text))
 text_kept x text c (Ok (Ok k)) is verdict = record { judged = read text c None is verdict.is; checked = accepted_is_checked x c k verdict }
 text_kept x text c (Ok (Err f)) is verdict = read text c (Some f) is verdict
 text_kept x text c (Err m) is verdict = tt
 
 -- the run itself
-pub certified_runs : (x : Exchange) (text : Option (List ℕ)) (a : Answer) (r : Result Answer Stop) → IsJudged x text None → ReadAs (Ok a) r → TellsOutcome (IsCertifiedRun x text a) r
+pub certified_runs : (x : Exchange) (text : Option (List ℕ)) (a : Answer) (r : Result Answer Stop)
+    → IsJudged x text None → ReadAs (Ok a) r → TellsOutcome (IsCertifiedRun x text a) r
 certified_runs x text a (Ok v) judged reads = record { fault = None; judged = judged; comes = reads }
 certified_runs x text a (Err (stop.Told r)) judged reads = (reads.0, record { fault = None; judged = judged; comes = reads.1 })
 certified_runs x text a (Err stop.NotHeld) judged reads = absurd reads
@@ -219,7 +246,8 @@ certified_runs x text a (Err stop.Failed) judged reads = absurd reads
 certified_runs x text a (Err stop.Memory) judged reads = tt
 
 -- a refusal
-pub certified_refused : (x : Exchange) (text : Option (List ℕ)) (a : Answer) (f : CertificateFault) (s : Stop) → IsJudged x text (Some f) → IsStopOf (certificate_refusal f) s → TellsOutcome (IsCertifiedRun x text a) (Err s)
+pub certified_refused : (x : Exchange) (text : Option (List ℕ)) (a : Answer) (f : CertificateFault) (s : Stop)
+    → IsJudged x text (Some f) → IsStopOf (certificate_refusal f) s → TellsOutcome (IsCertifiedRun x text a) (Err s)
 certified_refused x text a f (stop.Told b) judged is = (is.0, record { fault = Some f; judged = judged; comes = ap Err is.1 })
 certified_refused x text a f stop.NotHeld judged is = absurd is
 certified_refused x text a f stop.Failed judged is = absurd is

@@ -4,7 +4,9 @@ use Rattle.plex_io.specs.Files.{Files}
 use Rattle.answer_meaning.specs.Text.{usage_text}
 use Rattle.command_words.specs.Words.{Word, shape}
 use Rattle.command_words.specs.declared.command.Command.{Command}
-use Rattle.command_words.specs.declared.command.Command.TheVariants.{Run, Single, Analyse, Certify, List as Listing, Load, Timed, Change, Trace}
+use Rattle.command_words.specs.declared.command.Command.TheVariants.{Run, Single, Analyse, Certify}
+use Rattle.command_words.specs.declared.command.Command.TheVariants.{List as Listing, Load, Timed}
+use Rattle.command_words.specs.declared.command.Command.TheVariants.{Change, Trace}
 use Rattle.answer_meaning.specs.declared.answer.Answer.{Answer}
 use Rattle.command_words.specs.declared.status.Status.TheVariants as status
 use Rattle.answer_meaning.specs.Outcome.{Out}

@@ -4,9 +4,12 @@ use Rattle.exchange_model.specs.declared.exchange.Exchange.{Exchange}
 use Rattle.certificate_text.specs.declared.certificate.Certificate.{Certificate}
 use Rattle.certificate_text.specs.Lines.{HasBadLine, IsTextOf}
 use Rattle.checked.specs.Kept.{IsChecked, KeptSummaries}
-use Rattle.certificate_meaning.specs.Verdicts.{Accepts, AreShapes, IsClosedCertificate, IsMissing, IsStrange}
+use Rattle.certificate_meaning.specs.Verdicts.{Accepts, AreShapes, IsClosedCertificate, IsMissing}
+use Rattle.certificate_meaning.specs.Verdicts.{IsStrange}
 use Rattle.answer_meaning.specs.declared.fault.CertificateFault.{CertificateFault}
-use Rattle.answer_meaning.specs.declared.fault.CertificateFault.TheVariants.{TooLarge, BadText, WrongExchange, Strange, Missing}
+use Rattle.answer_meaning.specs.declared.fault.CertificateFault.TheVariants.{TooLarge, BadText}
+use Rattle.answer_meaning.specs.declared.fault.CertificateFault.TheVariants.{WrongExchange, Strange}
+use Rattle.answer_meaning.specs.declared.fault.CertificateFault.TheVariants.{Missing}
 
 -- a certificate has this fault for the exchange, or is one of it
 abbrev pub Judges : Exchange → Certificate → Option CertificateFault → Type 0
@@ -20,8 +23,10 @@ Judges x c (Some (Missing f)) = IsMissing x c f
 -- the same of a text, which may be too large, or that of no certificate
 pub data IsJudged (x : Exchange) : Option (List ℕ) → Option CertificateFault → Type 0 where
   large : IsJudged x None (Some TooLarge)
-  bad : (text : List ℕ) (line : ℕ) → HasBadLine text line → IsJudged x (Some text) (Some (BadText line))
-  read : (text : List ℕ) (c : Certificate) (o : Option CertificateFault) → IsTextOf text c → Judges x c o → IsJudged x (Some text) o
+  bad : (text : List ℕ) (line : ℕ) → HasBadLine text line
+      → IsJudged x (Some text) (Some (BadText line))
+  read : (text : List ℕ) (c : Certificate) (o : Option CertificateFault) → IsTextOf text c
+      → Judges x c o → IsJudged x (Some text) o
 
 -- this is kept of a certificate of the exchange that has this text
 pub record IsKeptBy (x : Exchange) (text : Option (List ℕ)) (k : KeptSummaries) : Type 0 where

@@ -1,5 +1,6 @@
 -- `change`: a run that goes on with another exchange.
-use Rattle.std.specs.Prelude.{◌≡◌, ℕ, nat_le, nat_lt, Bool, true, false, not, ◌&&◌, List, ◌++◌, Option, Some, None}
+use Rattle.std.specs.Prelude.{◌≡◌, ℕ, nat_le, nat_lt, Bool, true, false, not, ◌&&◌, List, ◌++◌}
+use Rattle.std.specs.Prelude.{Option, Some, None}
 use Rattle.plex_io.specs.Files.{Files}
 use Rattle.exchange_model.specs.declared.exchange.Exchange.{Exchange}
 use Rattle.signal_file.specs.declared.line.Line.{Line}
@@ -18,12 +19,14 @@ use Rattle.answer_meaning.specs.Outcome.{ComesOf, IsAnAnswer, Out, headed_by}
 use Rattle.answer_meaning.specs.Given.{exchange_as, exchange_at, lines_at}
 use Rattle.answer_meaning.specs.RunAnswer.{end_of, ended_answer, ending_of, run_answer}
 
--- blocks are changed after so many jobs where the run may have so many, and the run that has so many at most has them, and has not stopped
--- with the last of them
+-- blocks are changed after so many jobs where the run may have so many, and the run that has so
+-- many at most has them, and has not stopped with the last of them
 abbrev pub is_changed : Exchange → List Line → (jobs at : ℕ) → Bool
-is_changed x lines jobs at = nat_le at jobs && (nat_le at (end_of x lines at).ended && not (has_stopped (end_of x lines at)))
+is_changed x lines jobs at =
+    nat_le at jobs && (nat_le at (end_of x lines at).ended && not (has_stopped (end_of x lines at)))
 
--- a run that ended so, after so many jobs, has not so many as this, or stopped with the last of them
+-- a run that ended so, after so many jobs, has not so many as this, or stopped with the last of
+-- them
 abbrev pub ends_before : Ending → (ended at : ℕ) → Bool
 ends_before Restarted ended at = true
 ends_before Finished ended at = nat_lt ended at
@@ -35,9 +38,11 @@ further_answer x s jobs = ended_answer x (end_state x jobs s) (ending_of jobs (e
 
 -- the events up to the change, the change, and the report of what follows on the new exchange
 abbrev pub changed_answer : (old new : Exchange) → (before carried : State) → (jobs at : ℕ) → Answer
-changed_answer old new before carried jobs at = headed_by (text_of (event_lines old before.events) ++ change_text at) (further_answer new carried jobs)
+changed_answer old new before carried jobs at = headed_by
+    (text_of (event_lines old before.events) ++ change_text at) (further_answer new carried jobs)
 
--- this state of the old exchange is carried over to the new one after so many jobs, and the run goes on there
+-- this state of the old exchange is carried over to the new one after so many jobs, and the run
+-- goes on there
 pub record IsChanged (old new : Exchange) (before : State) (jobs at : ℕ) (a : Answer) : Type 0 where
   pub carried : State
   pub is : IsCarried old new before carried
@@ -52,8 +57,10 @@ ChangesOrNot old new lines jobs at false a = a ≡ run_answer old lines jobs
 abbrev pub misfit_answer : Exchange → Misfit → Answer
 misfit_answer old m = record { status = status.Change; text = misfit_text old m }
 
-abbrev pub AnswersChange : (old new : Exchange) → List Line → (jobs at : ℕ) → Option Misfit → Answer → Type 0
-AnswersChange old new lines jobs at None a = ChangesOrNot old new lines jobs at (is_changed old lines jobs at) a
+abbrev pub AnswersChange : (old new : Exchange) → List Line → (jobs at : ℕ) → Option Misfit → Answer
+    → Type 0
+AnswersChange old new lines jobs at None a =
+    ChangesOrNot old new lines jobs at (is_changed old lines jobs at) a
 AnswersChange old new lines jobs at (Some m) a = a ≡ misfit_answer old m
 
 -- what a change from one exchange to another is answered by

@@ -14,7 +14,8 @@ use Rattle.command_words.specs.declared.status.Status.TheVariants as status
 use Rattle.answer_meaning.specs.Outcome.{ComesOf, IsAnAnswer, Out}
 use Rattle.answer_meaning.specs.Given.{exchange_at}
 
--- the analysis of an exchange: what the summaries of its entries say, which are those by the least facts
+-- the analysis of an exchange: what the summaries of its entries say, which are those by the least
+-- facts
 pub record AnswersAnalysis (x : Exchange) (a : Answer) : Type 0 where
   pub status : a.status ≡ status.Done
   pub summaries : List Summary

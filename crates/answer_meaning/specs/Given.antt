@@ -1,5 +1,6 @@
 -- The exchange and the signal lines that files hold.
-use Rattle.std.specs.Prelude.{ℕ, nat_lt, List, length, Option, Some, None, Result, Ok, Err, if◌then◌else◌}
+use Rattle.std.specs.Prelude.{ℕ, nat_lt, List, length, Option, Some, None, Result, Ok, Err}
+use Rattle.std.specs.Prelude.{if◌then◌else◌}
 use Rattle.plex_io.specs.Files.{Files}
 use Rattle.plex_limits.specs.declared.limits.TheConstants.{MOST_BYTES}
 use Rattle.exchange_model.specs.declared.exchange.Exchange.{Exchange}

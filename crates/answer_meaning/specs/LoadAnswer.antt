@@ -17,10 +17,12 @@ use Rattle.answer_meaning.specs.RunAnswer.{end_of, ended_status, ending_of}
 
 -- the summary of the single run of a load that ends so, and the status of that ending
 abbrev pub summed_answer : ℕ → State → Ending → Answer
-summed_answer calls s ending = record { status = ended_status ending; text = load_text calls s ending }
+summed_answer calls s ending =
+    record { status = ended_status ending; text = load_text calls s ending }
 
 abbrev pub load_answer : ℕ → Exchange → List Line → Answer
-load_answer calls x lines = summed_answer calls (end_of x lines USUAL_JOBS) (ending_of USUAL_JOBS (end_of x lines USUAL_JOBS))
+load_answer calls x lines = summed_answer calls (end_of x lines USUAL_JOBS)
+    (ending_of USUAL_JOBS (end_of x lines USUAL_JOBS))
 
 -- the two texts of a load stand in place of an exchange file and a signal file
 abbrev pub load_of : ℕ → Out Answer

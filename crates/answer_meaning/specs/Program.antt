@@ -25,7 +25,8 @@ ProcessEnds a before after status.Write = WroteLess before after a.text
 ProcessEnds a before after s = IsWritten a before after s
 
 -- the answer is such a one, and the call ends with this status
-pub record EndsBy (Is : Answer → Type 0) (before after : Option (List ℕ)) (s : Status) : Type 0 where
+pub record EndsBy (Is : Answer → Type 0) (before after : Option (List ℕ)) (s : Status) : Type
+    0 where
   pub answer : Answer
   pub is : Is answer
   pub ends : ProcessEnds answer before after s
@@ -36,13 +37,16 @@ ProcessEndsAs Is before after status.Read = Unit {0}
 ProcessEndsAs Is before after status.Memory = Unit {0}
 ProcessEndsAs Is before after s = EndsBy Is before after s
 
--- a read failed in this call, or the shelf tells its files and such an answer is that one is not held; nothing was written
-pub record ReadCause (Is : Files → Answer → Type 0) (held : Option Files) (faults faults' : ℕ) (before after : Option (List ℕ)) : Type 0 where
+-- a read failed in this call, or the shelf tells its files and such an answer is that one is not
+-- held; nothing was written
+pub record ReadCause (Is : Files → Answer → Type 0) (held : Option Files) (faults faults' : ℕ)
+    (before after : Option (List ℕ)) : Type 0 where
   pub cause : Rose faults faults' ⊎ IsSomeAnd held (λ files. Is files not_held)
   pub silent : after ≡ before
 
 -- a write failed in this call, and a sink that tells its size is full
-pub record WriteCause (size : Option ℕ) (written : Option (List ℕ)) (faults faults' : ℕ) : Type 0 where
+pub record WriteCause (size : Option ℕ) (written : Option (List ℕ)) (faults faults' : ℕ) : Type
+    0 where
   pub cause : Rose faults faults'
   pub full : IsFull size written
 
@@ -54,7 +58,8 @@ pub record HasStatus (Is : Answer → Type 0) (s : Status) : Type 0 where
 
 -- where neither count rose, the status is the answer's, or memory was refused
 abbrev pub IsComplete : (Answer → Type 0) → ℕ → ℕ → ℕ → ℕ → Status → Type 0
-IsComplete Is shelf shelf' sink sink' s = ¬ (Rose shelf shelf') → ¬ (Rose sink sink') → HasStatus Is s ⊎ (s ≡ status.Memory)
+IsComplete Is shelf shelf' sink sink' s =
+    ¬ (Rose shelf shelf') → ¬ (Rose sink sink') → HasStatus Is s ⊎ (s ≡ status.Memory)
 
 -- a status with which a text is written
 abbrev pub WritesText : Status → Type 0
@@ -64,8 +69,10 @@ WritesText status.Memory = ⊥
 WritesText s = Unit {0}
 
 -- such an answer comes, or why there is none
-abbrev pub Answers : (Files → Answer → Type 0) → Option Files → (faults faults' : ℕ) → Result Answer Stop → Type 0
-Answers Is held faults faults' result = Performs held (λ files o. Is files (answer_of o)) faults faults' result
+abbrev pub Answers : (Files → Answer → Type 0) → Option Files → (faults faults' : ℕ)
+    → Result Answer Stop → Type 0
+Answers Is held faults faults' result =
+    Performs held (λ files o. Is files (answer_of o)) faults faults' result
 
 -- an answer that may be written: that of no shape is the usage line, and no other is
 pub record IsMade (Unshaped : Type 0) (usage_line a : Answer) : Type 0 where

@@ -1,5 +1,7 @@
--- The tree of an exchange text, or its first fault: a fault of its size, then of its tokens, then of its sentence.
-use Rattle.std.specs.Prelude.{◌≡◌, ℕ, ◌≤◌, ◌+◌, List, slice_get, Option, Some, None, Result, Ok, Err}
+-- The tree of an exchange text, or its first fault: a fault of its size, then of its tokens, then
+-- of its sentence.
+use Rattle.std.specs.Prelude.{◌≡◌, ℕ, ◌≤◌, ◌+◌, List, slice_get, Option, Some, None, Result, Ok}
+use Rattle.std.specs.Prelude.{Err}
 use Rattle.plex_num.specs.declared.seq.Memory.{Memory}
 use Rattle.plex_lexer.specs.Lexed.{tokens_of}
 use Rattle.plex_lexer.specs.Cursors.{lines}
@@ -79,8 +81,8 @@ abbrev pub tree_of_file : Option (List ℕ) → Result Tree SourceFault
 tree_of_file None = Err too_large
 tree_of_file (Some text) = tree_of text
 
--- a tree that a text spells: its numbers have 32 bits, its brackets and statements nest as deep as they may, and its CASEs have no more
--- choices than a text has bytes
+-- a tree that a text spells: its numbers have 32 bits, its brackets and statements nest as deep as
+-- they may, and its CASEs have no more choices than a text has bytes
 pub record IsSpelled (t : Tree) : Type 0 where
   pub keeps : IsKept t
   pub few : choices_in (exchange_of_tree t) ≤ MOST_WHENS

@@ -3,7 +3,8 @@ use Rattle.std.specs.Prelude.{◌≡◌, ℕ, List, map, Option, Some, None, Ok,
 use Rattle.plex_io.specs.Files.{Files}
 use Rattle.exchange_model.specs.declared.exchange.Exchange.{Exchange}
 use Rattle.signal_file.specs.declared.line.Line.{Line}
-use Rattle.source_meaning.specs.SingleRun.{Ending, Finished, Limited, Restarted, end_state, ending_at, opening}
+use Rattle.source_meaning.specs.SingleRun.{Ending, Finished, Limited, Restarted, end_state}
+use Rattle.source_meaning.specs.SingleRun.{ending_at, opening}
 use Rattle.source_meaning.specs.State.{State}
 use Rattle.run_books.specs.Accounts.{with_words}
 use Rattle.run_books.specs.Events.{ending_of as told_ending}
@@ -27,7 +28,8 @@ ended_status Finished = status.Done
 ended_status Restarted = status.Restart
 ended_status Limited = status.Limit
 
--- how a run ends in this state, which may go on for so many jobs; of a state in which it does not end nothing is asked
+-- how a run ends in this state, which may go on for so many jobs; of a state in which it does not
+-- end nothing is asked
 abbrev pub ending_of : ℕ → State → Ending
 ending_of jobs s = unwrap_or (ending_at jobs s) Limited
 
@@ -39,12 +41,14 @@ ended_answer x s ending = record { status = ended_status ending; text = report_t
 abbrev pub ending_answer : Exchange → Ended → Answer
 ending_answer x end = ended_answer x (with_words end.books.state end.words) (told_ending end.ending)
 
--- the state in which the single run of these lines ends, which ends after so many jobs at the latest
+-- the state in which the single run of these lines ends, which ends after so many jobs at the
+-- latest
 abbrev pub end_of : Exchange → List Line → ℕ → State
 end_of x lines jobs = end_state x jobs (opening x (map coming_of lines))
 
 abbrev pub run_answer : Exchange → List Line → ℕ → Answer
-run_answer x lines jobs = ended_answer x (end_of x lines jobs) (ending_of jobs (end_of x lines jobs))
+run_answer x lines jobs =
+    ended_answer x (end_of x lines jobs) (ending_of jobs (end_of x lines jobs))
 
 abbrev pub run_of : RunWords → Files → Out Answer
 run_of w files =
@@ -57,8 +61,10 @@ abbrev pub or_certificate_fault : Option CertificateFault → Answer → Out Ans
 or_certificate_fault None a = Ok a
 or_certificate_fault (Some f) a = Err (certificate_refusal f)
 
--- a run with this answer comes to this where its certificate has such a text: a certificate of the exchange changes nothing
-pub record IsCertifiedRun (x : Exchange) (text : Option (List ℕ)) (a : Answer) (o : Out Answer) : Type 0 where
+-- a run with this answer comes to this where its certificate has such a text: a certificate of the
+-- exchange changes nothing
+pub record IsCertifiedRun (x : Exchange) (text : Option (List ℕ)) (a : Answer)
+    (o : Out Answer) : Type 0 where
   pub fault : Option CertificateFault
   pub judged : IsJudged x text fault
   pub comes : or_certificate_fault fault a ≡ o

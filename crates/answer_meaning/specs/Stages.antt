@@ -1,5 +1,6 @@
 -- What a stage comes to over a shelf, or why it stops.
-use Rattle.std.specs.Prelude.{◌≡◌, ℕ, ◌≤◌, List, Option, Result, Ok, Err, IfOk, IfErr, IfSome, IsSomeAnd}
+use Rattle.std.specs.Prelude.{◌≡◌, ℕ, ◌≤◌, List, Option, Result, Ok, Err, IfOk, IfErr, IfSome}
+use Rattle.std.specs.Prelude.{IsSomeAnd}
 use Rattle.plex_io.specs.Causes.{Rose}
 use Rattle.plex_io.specs.Files.{Files}
 use Rattle.plex_num.specs.declared.seq.Memory.{Memory}
@@ -21,20 +22,24 @@ IsRefusal s = ⊥
 
 -- why a stage stops
 abbrev pub StopsBy : {A : Type 0} → Option Files → (Files → Out A → Type 0) → ℕ → ℕ → Stop → Type 0
-StopsBy held work before after (stop.Told a) = IsRefusal a.status × IfSome held (λ files. work files (Err a))
+StopsBy held work before after (stop.Told a) =
+    IsRefusal a.status × IfSome held (λ files. work files (Err a))
 StopsBy held work before after stop.NotHeld = IsSomeAnd held (λ files. work files (Err not_held))
 StopsBy held work before after stop.Failed = Rose before after
 StopsBy held work before after stop.Memory = Unit {0}
 
--- a command, or a stage of it, comes to something, or it stops with a cause; the counts are those of the shelf's faults
-pub record Performs {A : Type 0} (held : Option Files) (work : Files → Out A → Type 0) (before after : ℕ) (result : Result A Stop) : Type 0 where
+-- a command, or a stage of it, comes to something, or it stops with a cause; the counts are those
+-- of the shelf's faults
+pub record Performs {A : Type 0} (held : Option Files) (work : Files → Out A → Type 0)
+    (before after : ℕ) (result : Result A Stop) : Type 0 where
   pub ok : IfOk result (λ a. IfSome held (λ files. work files (Ok a)))
   pub stops : IfErr result (StopsBy held work before after)
   pub later : before ≤ after
 
 -- a stage comes to what it is
 abbrev pub Comes : {A : Type 0} → Option Files → (Files → Out A) → ℕ → ℕ → Result A Stop → Type 0
-Comes held stage before after result = Performs held (λ files o. stage files ≡ o) before after result
+Comes held stage before after result =
+    Performs held (λ files o. stage files ≡ o) before after result
 
 -- an outcome comes that is such a one, or memory was refused; no file is read
 abbrev pub TellsOutcome : {A : Type 0} → (Out A → Type 0) → Result A Stop → Type 0

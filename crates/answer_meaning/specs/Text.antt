@@ -7,7 +7,8 @@ use Rattle.exchange_model.specs.declared.exchange.Exchange.{Exchange}
 use Rattle.exchange_model.specs.Cells.{Placed, placed_files}
 use Rattle.exchange_model.specs.Names.{name_of_block, name_of_entry}
 use Rattle.block_change.specs.declared.misfit.Misfit.{Misfit}
-use Rattle.block_change.specs.declared.misfit.Misfit.TheVariants.{Entry as EntryMisfit, File as FileMisfit}
+use Rattle.block_change.specs.declared.misfit.Misfit.TheVariants.{Entry as EntryMisfit}
+use Rattle.block_change.specs.declared.misfit.Misfit.TheVariants.{File as FileMisfit}
 use Rattle.flow_points.specs.declared.fact.Fact.{Fact}
 use Rattle.certificate_text.specs.declared.certificate.Shape.{Shape}
 use Rattle.certificate_text.specs.Text.{fact_line}
@@ -72,7 +73,8 @@ shape_numbers s = s.signals ∷ s.blocks ∷ s.points ∷ s.cells ∷ s.entries 
 -- the numbers of the exchange, then those of the certificate
 abbrev pub other_exchange : Shape → Shape → List ℕ
 other_exchange x c =
-    codes "CERTIFICATE WRONGEXCHANGE" ++ flat_map spaced (shape_numbers x) ++ codes " AND" ++ flat_map spaced (shape_numbers c) ++ LF
+    codes "CERTIFICATE WRONGEXCHANGE" ++ flat_map spaced (shape_numbers x) ++ codes " AND"
+    ++ flat_map spaced (shape_numbers c) ++ LF
 
 -- the line of a fact behind these words
 abbrev pub fact_text : List ℕ → Fact → List ℕ
@@ -81,7 +83,8 @@ fact_text words f = words ++ fact_line f ++ LF
 -- the first fault of a certificate
 abbrev pub certificate_text : CertificateFault → List ℕ
 certificate_text certificate.TooLarge = rule_line (codes "CERTIFICATE line ") 0 (codes "TOOLARGE")
-certificate_text (certificate.BadText line) = rule_line (codes "CERTIFICATE line ") line (codes "BADTEXT")
+certificate_text (certificate.BadText line) =
+    rule_line (codes "CERTIFICATE line ") line (codes "BADTEXT")
 certificate_text (certificate.WrongExchange x c) = other_exchange x c
 certificate_text (certificate.Strange f) = fact_text (codes "CERTIFICATE STRANGE ") f
 certificate_text (certificate.Missing f) = fact_text (codes "CERTIFICATE MISSING ") f
@@ -93,25 +96,39 @@ source_words New = codes "NEWSOURCE line "
 
 -- what the first fault of a file is answered by
 unfoldable pub source_refusal : Which → SourceFault → Answer
-source_refusal which f = record { status = status.Source; text = rule_line (source_words which) f.line (rule_name f.rule) }
+source_refusal which f = record {
+  status = status.Source;
+  text = rule_line (source_words which) f.line (rule_name f.rule);
+}
 
 unfoldable pub signals_refusal : SignalsFault → Answer
-signals_refusal f = record { status = status.Signals; text = rule_line (codes "SIGNALS line ") f.line (signals_rule_name f.rule) }
+signals_refusal f = record {
+  status = status.Signals;
+  text = rule_line (codes "SIGNALS line ") f.line (signals_rule_name f.rule);
+}
 
 unfoldable pub certificate_refusal : CertificateFault → Answer
 certificate_refusal f = record { status = status.Certificate; text = certificate_text f }
 
 unfoldable pub table_refusal : TableFault → Answer
-table_refusal f = record { status = status.Table; text = rule_line (codes "TABLE line ") f.line (table_rule_name f.rule) }
+table_refusal f = record {
+  status = status.Table;
+  text = rule_line (codes "TABLE line ") f.line (table_rule_name f.rule);
+}
 
 unfoldable pub filter_refusal : FilterFault → Answer
-filter_refusal f = record { status = status.Filter; text = rule_line (codes "FILTER line ") f.line (filter_rule_name f.rule) }
+filter_refusal f = record {
+  status = status.Filter;
+  text = rule_line (codes "FILTER line ") f.line (filter_rule_name f.rule);
+}
 
 -- `BLOCK.FILE`, a file by its number
 abbrev pub file_words : Exchange → ℕ → List ℕ
-file_words x n = option_map_or (λ (p : Placed). name_of_block x.blocks p.block ++ codes "." ++ p.file.name) (slice_get (placed_files x.blocks) n) []
+file_words x n = option_map_or (λ (p : Placed). name_of_block x.blocks p.block ++ codes "."
+    ++ p.file.name) (slice_get (placed_files x.blocks) n) []
 
--- `CHANGE ENTRY SIG BLOCK` or `CHANGE FILE BLOCK.FILE`, what an exchange has and another one has not
+-- `CHANGE ENTRY SIG BLOCK` or `CHANGE FILE BLOCK.FILE`, what an exchange has and another one has
+-- not
 abbrev pub misfit_text : Exchange → Misfit → List ℕ
 misfit_text x (EntryMisfit e) = codes "CHANGE ENTRY " ++ name_of_entry x e ++ LF
 misfit_text x (FileMisfit f) = codes "CHANGE FILE " ++ file_words x f ++ LF

@@ -15,10 +15,12 @@ use Rattle.answer_meaning.specs.Outcome.{Out, goes_on, or_refused}
 use Rattle.answer_meaning.specs.Given.{exchange_at, lines_at, text_at}
 use Rattle.answer_meaning.specs.RunAnswer.{run_answer}
 
--- the lines and the signals of a table's text, as one list, or the first fault of the table; a text that is too large has no line
+-- the lines and the signals of a table's text, as one list, or the first fault of the table; a text
+-- that is too large has no line
 abbrev pub merged_of_file : Exchange → List Line → Option (List ℕ) → Out (List Line)
 merged_of_file x lines None = Err (table_refusal (breach TooLarge 0))
-merged_of_file x lines (Some text) = goes_on (or_refused table_refusal (table_periods x (length lines) text)) (λ periods. Ok (merged lines periods))
+merged_of_file x lines (Some text) = goes_on (or_refused table_refusal
+    (table_periods x (length lines) text)) (λ periods. Ok (merged lines periods))
 
 -- the same for the table of a file
 abbrev pub merged_at : Exchange → List Line → Word → Files → Out (List Line)

@@ -30,7 +30,8 @@ shows_at x name files = goes_on (text_at name files) (λ text. shows_of_file x t
 -- the jobs of the single run that a filter shows, and then its report
 abbrev pub trace_answer : Exchange → List Line → List Show → ℕ → Answer
 trace_answer x lines shows jobs =
-    headed_by (trace_text x (trace x jobs (opening x (map coming_of lines)) shows)) (run_answer x lines jobs)
+    headed_by (trace_text x (trace x jobs (opening x (map coming_of lines)) shows))
+    (run_answer x lines jobs)
 
 abbrev pub trace_of : TraceWords → Files → Out Answer
 trace_of w files =

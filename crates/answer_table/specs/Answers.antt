@@ -1,5 +1,6 @@
 -- Where answers are retrieved, and from where they return.
-use Rattle.std.specs.Prelude.{◌≡◌, ℕ, Bool, true, false, List, length, Option, Some, None, slice_get}
+use Rattle.std.specs.Prelude.{◌≡◌, ℕ, Bool, true, false, List, length, Option, Some, None}
+use Rattle.std.specs.Prelude.{slice_get}
 use Rattle.std.specs.List.{Contains}
 use Rattle.exchange_model.specs.declared.exchange.Exchange.{Exchange}
 use Rattle.exchange_model.specs.declared.stmt.StmtKind.TheOpen as stmt
@@ -26,7 +27,8 @@ IsReturnAt x point answer = IsOfAnswer returned x point answer
 -- the answers of an exchange: what each statement awaits, and the RETURNs of each signal
 pub record AreAnswers (x : Exchange) (t : AnswerTable) : Type 0 where
   pub each_point : length t.awaited ≡ length x.points
-  pub awaits : (p : ℕ) (at : Place) → StandsAt x p at → slice_get t.awaited p ≡ Some (retrieved at.layer)
+  pub awaits : (p : ℕ) (at : Place) → StandsAt x p at
+      → slice_get t.awaited p ≡ Some (retrieved at.layer)
   pub returns : ArePointLists returned x t.returns
 
 abbrev pub known_answer : Option (Option ℕ) → Option ℕ

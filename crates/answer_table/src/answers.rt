@@ -11,8 +11,8 @@ use flow_table::{PlaceAt, awaited_of, empty_lists, places_of, push_listed};
 use plex_num::{Memory, Seq};
 use std::alloc::Global;
 
-/// For each point the answer that its statement awaits, if it is a RETRIEVE; and for each signal the points of the RETURNs that
-/// give it as an answer.
+/// For each point the answer that its statement awaits, if it is a RETRIEVE; and for each signal
+/// the points of the RETURNs that give it as an answer.
 pub struct AnswerTable {
     pub awaited: Seq<Option<u32>>,
     pub returns: Seq<Seq<u32>>,

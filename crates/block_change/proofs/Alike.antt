@@ -1,5 +1,8 @@
--- What an exchange has that fits: each entry, with its level and number of values, and each record that may be held.
-use Rattle.std.proofs.Common.{◌≡◌, ℕ, zero, suc, ◌+◌, ◌<◌, ◌≤◌, Bool, true, false, not, ◌&&◌, cond, nat_eq, List, [], ◌∷◌, length, map, position, Option, Some, None, unwrap_or, slice_get, refl, sym, ap, ◌∙◌, arith}
+-- What an exchange has that fits: each entry, with its level and number of values, and each record
+-- that may be held.
+use Rattle.std.proofs.Common.{◌≡◌, ℕ, zero, suc, ◌+◌, ◌<◌, ◌≤◌, Bool, true, false, not, ◌&&◌, cond}
+use Rattle.std.proofs.Common.{nat_eq, List, [], ◌∷◌, length, map, position, Option, Some, None}
+use Rattle.std.proofs.Common.{unwrap_or, slice_get, refl, sym, ap, ◌∙◌, arith}
 use Rattle.std.specs.Prelude.{nat_le}
 use Rattle.std.specs.List.{IsDistinct, find, position_or_len}
 use Rattle.std.specs.Option.{option_and_then, option_map_or, option_or}
@@ -26,10 +29,12 @@ use Rattle.exchange_model.specs.Names.{level_of, signal_level}
 use Rattle.source_meaning.specs.Config.{files_of}
 use Rattle.source_meaning.specs.Valid.{IsRecord, entry_count}
 use Rattle.block_change.specs.Carried.{carried_held, new_entries, new_entry, new_file, number_for}
-use Rattle.block_change.specs.Misfits.{agree, entry_signal, first_lacking, first_misfit, has_entry, lacking, lacks, misfit, rank, takes}
+use Rattle.block_change.specs.Misfits.{agree, entry_signal, first_lacking, first_misfit, has_entry}
+use Rattle.block_change.specs.Misfits.{lacking, lacks, misfit, rank, takes}
 use Rattle.block_change.specs.Names.{file_names, place_of}
 use Rattle.exchange_model.specs.Names.{names_of_blocks}
-use Rattle.block_change.specs.Same.{file_at, file_named, same_block, same_entry, same_file, same_signal}
+use Rattle.block_change.specs.Same.{file_at, file_named, same_block, same_entry, same_file}
+use Rattle.block_change.specs.Same.{same_signal}
 use Rattle.block_change.proofs.Distinct.{named_apart}
 use Rattle.block_change.proofs.Lists.{and_then, named_item, stands_at}
 use Rattle.block_change.proofs.Placed.{placed_file}
@@ -38,14 +43,16 @@ use Rattle.block_change.proofs.Placed.{placed_file}
 
 none_there : {X : Type 0} (p : X → Bool) (xs : List X) → position_or_len p xs < length xs → position p xs ≡ None → ⊥
 none_there p xs lt none =
-    let some : position p xs ≡ Some (position_or_len p xs) = ap (λ b. cond b (Some (position_or_len p xs)) None) (lt-ltb (position_or_len p xs) (length xs) lt) in
+    let some : position p xs ≡ Some (position_or_len p xs) = ap (λ b. cond b (Some (position_or_len p xs)) None)
+    (lt-ltb (position_or_len p xs) (length xs) lt) in
     absurd (cc)
 
 none_passes : {X : Type 0} (p : X → Bool) (xs : List X) → (position_or_len p xs < length xs → ⊥) → (i : ℕ) (x : X) → slice_get xs i ≡ Some x → p x ≡ false
 none_passes p [] none i x at = absurd (none-some x at)
 none_passes {X} p (y ∷ ys) none i x at = by (p y) refl (λ more j there. none_passes p ys more j x there) i at
   where
-    by : (b : Bool) → p y ≡ b → ((position_or_len p ys < length ys → ⊥) → (j : ℕ) → slice_get ys j ≡ Some x → p x ≡ false) → (i : ℕ) → slice_get (y ∷ ys) i ≡ Some x → p x ≡ false
+    by : (b : Bool) → p y ≡ b → ((position_or_len p ys < length ys → ⊥) → (j : ℕ) → slice_get ys j ≡ Some x
+        → p x ≡ false) → (i : ℕ) → slice_get (y ∷ ys) i ≡ Some x → p x ≡ false
     by true is more i at =
         let here : position_or_len p (y ∷ ys) ≡ 0 = ap (λ b. cond (not b) (1 + position_or_len p ys) 0) is in
         absurd (none (omega (arith, here)))
@@ -61,7 +68,9 @@ pub find_none : {X : Type 0} (p : X → Bool) (xs : List X) → find p xs ≡ No
 find_none p [] none i x at = absurd (none-some x at)
 find_none {X} p (y ∷ ys) none i x at = by (p y) refl none (λ more j there. find_none p ys more j x there) i at
   where
-    by : (b : Bool) → p y ≡ b → cond b (Some y) (find p ys) ≡ None → (find p ys ≡ None → (j : ℕ) → slice_get ys j ≡ Some x → p x ≡ false) → (i : ℕ) → slice_get (y ∷ ys) i ≡ Some x → p x ≡ false
+    by : (b : Bool) → p y ≡ b → cond b (Some y) (find p ys) ≡ None
+        → (find p ys ≡ None → (j : ℕ) → slice_get ys j ≡ Some x → p x ≡ false) → (i : ℕ) → slice_get (y ∷ ys) i ≡ Some x
+        → p x ≡ false
     by true is none more i at = absurd (cc)
     by false is none more zero at = ap p (sym (same_Some y x at)) ∙ is
     by false is none more (suc i) at = more none i at
@@ -86,7 +95,8 @@ entries_there x y fits e r at =
     let none = (none_first (position (λ s. not (has_entry x y s)) x.entries) (first_lacking y x.blocks) fits).0 in
     not-false (has_entry x y r) (position_none (λ s. not (has_entry x y s)) x.entries none e r at)
 
-pub files_there : (x y : Exchange) → misfit x y ≡ None → (b j : ℕ) (k : Block) (f : File) → slice_get x.blocks b ≡ Some k → slice_get k.files j ≡ Some f → lacks y k.name f ≡ false
+pub files_there : (x y : Exchange) → misfit x y ≡ None → (b j : ℕ) (k : Block) (f : File)
+    → slice_get x.blocks b ≡ Some k → slice_get k.files j ≡ Some f → lacks y k.name f ≡ false
 files_there x y fits b j k f block own =
     let none = (none_first (position (λ s. not (has_entry x y s)) x.entries) (first_lacking y x.blocks) fits).1 in
     find_none (lacks y k.name) k.files (none_lacking y x.blocks none b k block) j f own
@@ -112,14 +122,16 @@ one_rank k l is = sym (ranked k) ∙ ap unrank is ∙ ranked l
 level_by : (y : Exchange) (n : ℕ) → level_of y n ≡ signal_level (entry_signal y n)
 level_by y n = by (slice_get y.entries n)
   where
-    by : (o : Option Entry) → option_map_or (λ (e : Entry). signal_level (slice_get y.signals e.signal)) o B ≡ signal_level (option_and_then (λ (r : Entry). slice_get y.signals r.signal) o)
+    by : (o : Option Entry) → option_map_or (λ (e : Entry). signal_level (slice_get y.signals e.signal)) o B
+        ≡ signal_level (option_and_then (λ (r : Entry). slice_get y.signals r.signal) o)
     by None = refl
     by (Some e) = refl
 
 count_by : (y : Exchange) (n : ℕ) → entry_count y n ≡ option_map_or signal_count (entry_signal y n) 0
 count_by y n = by (slice_get y.entries n)
   where
-    by : (o : Option Entry) → option_map_or (λ (e : Entry). option_map_or signal_count (slice_get y.signals e.signal) 0) o 0 ≡ option_map_or signal_count (option_and_then (λ (r : Entry). slice_get y.signals r.signal) o) 0
+    by : (o : Option Entry) → option_map_or (λ (e : Entry). option_map_or signal_count (slice_get y.signals e.signal) 0)
+        o 0 ≡ option_map_or signal_count (option_and_then (λ (r : Entry). slice_get y.signals r.signal) o) 0
     by None = refl
     by (Some e) = refl
 
@@ -129,21 +141,33 @@ pub record IsNewEntry (x y : Exchange) (e : ℕ) : Type 0 where
   pub level : level_of y (new_entry x y e) ≡ level_of x e
   pub count : entry_count y (new_entry x y e) ≡ entry_count x e
 
-entry_by : (x y : Exchange) (e : ℕ) (r : Entry) → slice_get x.entries e ≡ Some r → (o : Option ℕ) → same_entry x y r ≡ o → option_map_or (λ n. agree (slice_get x.signals r.signal) (entry_signal y n)) o false ≡ true → IsNewEntry x y e
+entry_by : (x y : Exchange) (e : ℕ) (r : Entry) → slice_get x.entries e ≡ Some r → (o : Option ℕ) → same_entry x y r ≡ o
+    → option_map_or (λ n. agree (slice_get x.signals r.signal) (entry_signal y n)) o false ≡ true → IsNewEntry x y e
 entry_by x y e r at None same there = absurd (cc)
 entry_by x y e r at (Some n) same there =
-    let parts = and_parts (nat_eq (rank (signal_level (slice_get x.signals r.signal))) (rank (signal_level (entry_signal y n)))) (nat_eq (option_map_or signal_count (slice_get x.signals r.signal) 0) (option_map_or signal_count (entry_signal y n) 0)) there in
+    let parts = and_parts (nat_eq (rank (signal_level (slice_get x.signals r.signal)))
+    (rank (signal_level (entry_signal y n))))
+    (nat_eq (option_map_or signal_count (slice_get x.signals r.signal) 0)
+    (option_map_or signal_count (entry_signal y n) 0)) there in
     let number : new_entry x y e ≡ n =
     get_or_from_slice_get (new_entries x y) e (number_for x y r) 0 (got_map (number_for x y) x.entries e r at) ∙ ap (λ o. unwrap_or o 0) same in
-    let old_level : level_of x e ≡ signal_level (slice_get x.signals r.signal) = ap (λ o. option_map_or (λ (d : Entry). signal_level (slice_get x.signals d.signal)) o B) at in
-    let old_count : entry_count x e ≡ option_map_or signal_count (slice_get x.signals r.signal) 0 = ap (λ o. option_map_or (λ (d : Entry). option_map_or signal_count (slice_get x.signals d.signal) 0) o 0) at in
-    let b = and_then (λ b. option_and_then (λ s. position (is_entry b s) y.entries) (same_signal x.signals y.signals r.signal)) (same_block x.blocks y.blocks r.block) n same in
+    let old_level : level_of x e ≡ signal_level (slice_get x.signals r.signal) = ap
+    (λ o. option_map_or (λ (d : Entry). signal_level (slice_get x.signals d.signal)) o B) at in
+    let old_count : entry_count x e ≡ option_map_or signal_count (slice_get x.signals r.signal) 0 = ap
+    (λ o. option_map_or (λ (d : Entry). option_map_or signal_count (slice_get x.signals d.signal) 0) o 0) at in
+    let b = and_then (λ b. option_and_then (λ s. position (is_entry b s) y.entries)
+    (same_signal x.signals y.signals r.signal)) (same_block x.blocks y.blocks r.block) n same in
     let s = and_then (λ s. position (is_entry b.0 s) y.entries) (same_signal x.signals y.signals r.signal) n b.2 in
     let inside = (position-Some (is_entry b.0 s.0) y.entries n r s.2).0 in
     record {
       within = omega (arith, number, inside);
-      level = ap (level_of y) number ∙ level_by y n ∙ sym (one_rank (signal_level (slice_get x.signals r.signal)) (signal_level (entry_signal y n)) (eqb-true (rank (signal_level (slice_get x.signals r.signal))) (rank (signal_level (entry_signal y n))) parts.0)) ∙ sym old_level;
-      count = ap (entry_count y) number ∙ count_by y n ∙ sym (eqb-true (option_map_or signal_count (slice_get x.signals r.signal) 0) (option_map_or signal_count (entry_signal y n) 0) parts.1) ∙ sym old_count;
+      level = ap (level_of y) number ∙ level_by y n
+          ∙ sym (one_rank (signal_level (slice_get x.signals r.signal)) (signal_level (entry_signal y n))
+          (eqb-true (rank (signal_level (slice_get x.signals r.signal))) (rank (signal_level (entry_signal y n)))
+          parts.0)) ∙ sym old_level;
+      count = ap (entry_count y) number ∙ count_by y n
+          ∙ sym (eqb-true (option_map_or signal_count (slice_get x.signals r.signal) 0)
+          (option_map_or signal_count (entry_signal y n) 0) parts.1) ∙ sym old_count;
     }
 
 pub new_entry_is : (x y : Exchange) → misfit x y ≡ None → (e : ℕ) → e < length x.entries → IsNewEntry x y e
@@ -180,10 +204,13 @@ taken g f is =
     (parts.0, grind (arith, nat_tests, small))
 
 pub lacks_not : (y : Exchange) (block : List ℕ) (f : File) → f.forlopp ≡ true → lacks y block f ≡ false → takes (file_named y.blocks block f.name) f ≡ true
-lacks_not y block f kind none = not-false (takes (file_named y.blocks block f.name) f) (sym (ap (λ b. b && not (takes (file_named y.blocks block f.name) f)) kind) ∙ none)
+lacks_not y block f kind none = not-false (takes (file_named y.blocks block f.name) f)
+    (sym (ap (λ b. b && not (takes (file_named y.blocks block f.name) f)) kind) ∙ none)
 
-pub new_file_is : (x y : Exchange) → IsExchange y → misfit x y ≡ None → (f : ℕ) (p : Placed) → slice_get (placed_files x.blocks) f ≡ Some p → p.file.forlopp ≡ true → IsNewFile x y f p
-new_file_is x y kept fits f p at kind = by (file_named y.blocks s.owner.name p.file.name) refl (lacks_not y s.owner.name p.file kind (files_there x y fits p.block s.place s.owner p.file s.there s.own))
+pub new_file_is : (x y : Exchange) → IsExchange y → misfit x y ≡ None → (f : ℕ) (p : Placed)
+    → slice_get (placed_files x.blocks) f ≡ Some p → p.file.forlopp ≡ true → IsNewFile x y f p
+new_file_is x y kept fits f p at kind = by (file_named y.blocks s.owner.name p.file.name) refl
+    (lacks_not y s.owner.name p.file kind (files_there x y fits p.block s.place s.owner p.file s.there s.own))
   where
     s : FileStands x.blocks p
     s = stands x.blocks f p at
@@ -243,16 +270,24 @@ pub once_there : (ns : List (List ℕ)) (i j : ℕ) (n : List ℕ) → IsDistinc
 unfolding IsDistinct
 once_there [] i j n apart at at2 = absurd (none-some n at)
 once_there (m ∷ ns) zero zero n apart at at2 = refl
-once_there (m ∷ ns) zero (suc j) n apart at at2 = absurd (both_ways (bytes_eq m n) (all_at (λ l. bytes_eq m l ≡ false) ns j n apart.0 at2) ((bytes_eq-Decides m n).1 (same_Some m n at)))
-once_there (m ∷ ns) (suc i) zero n apart at at2 = absurd (both_ways (bytes_eq m n) (all_at (λ l. bytes_eq m l ≡ false) ns i n apart.0 at) ((bytes_eq-Decides m n).1 (same_Some m n at2)))
+once_there (m ∷ ns) zero (suc j) n apart at at2 = absurd
+    (both_ways (bytes_eq m n) (all_at (λ l. bytes_eq m l ≡ false) ns j n apart.0 at2)
+    ((bytes_eq-Decides m n).1 (same_Some m n at)))
+once_there (m ∷ ns) (suc i) zero n apart at at2 = absurd
+    (both_ways (bytes_eq m n) (all_at (λ l. bytes_eq m l ≡ false) ns i n apart.0 at)
+    ((bytes_eq-Decides m n).1 (same_Some m n at2)))
 once_there (m ∷ ns) (suc i) (suc j) n apart at at2 = ap suc (once_there ns i j n apart.1 at at2)
 
-pub named_once : {X : Type 0} (name_of : X → List ℕ) (xs : List X) (i j : ℕ) (a b : X) → IsDistinct bytes_eq (map name_of xs) → slice_get xs i ≡ Some a → slice_get xs j ≡ Some b → name_of a ≡ name_of b → i ≡ j
+pub named_once : {X : Type 0} (name_of : X → List ℕ) (xs : List X) (i j : ℕ) (a b : X)
+    → IsDistinct bytes_eq (map name_of xs) → slice_get xs i ≡ Some a → slice_get xs j ≡ Some b → name_of a ≡ name_of b
+    → i ≡ j
 named_once name_of xs i j a b apart at at2 same =
     once_there (map name_of xs) i j (name_of a) apart (got_map name_of xs i a at) (got_map name_of xs j b at2 ∙ ap Some (sym same))
 
 -- two FORLOPP FILES that go to one file are one
-pub one_file : (x y : Exchange) → IsExchange x → IsExchange y → misfit x y ≡ None → (f g : ℕ) (p q : Placed) → slice_get (placed_files x.blocks) f ≡ Some p → slice_get (placed_files x.blocks) g ≡ Some q → p.file.forlopp ≡ true → q.file.forlopp ≡ true → new_file x y f ≡ new_file x y g → f ≡ g
+pub one_file : (x y : Exchange) → IsExchange x → IsExchange y → misfit x y ≡ None → (f g : ℕ) (p q : Placed)
+    → slice_get (placed_files x.blocks) f ≡ Some p → slice_get (placed_files x.blocks) g ≡ Some q
+    → p.file.forlopp ≡ true → q.file.forlopp ≡ true → new_file x y f ≡ new_file x y g → f ≡ g
 one_file x y kept_x kept_y fits f g p q at at2 kind kind2 same =
     let m = new_file_is x y kept_y fits f p at kind in
     let n = new_file_is x y kept_y fits g q at2 kind2 in
@@ -262,11 +297,13 @@ one_file x y kept_x kept_y fits f g p q at at2 kind kind2 same =
     let block : m.block ≡ n.block = sym m.is_block ∙ ap (λ (r : Placed). r.block) placed ∙ n.is_block in
     let like : m.like ≡ n.like = same_Some m.like n.like (sym m.like_at ∙ ap (slice_get y.blocks) block ∙ n.like_at) in
     let owners : m.owner.name ≡ n.owner.name = sym m.one_name ∙ ap (λ (k : Block). k.name) like ∙ n.one_name in
-    let blocks : p.block ≡ q.block = named_once (λ (k : Block). k.name) x.blocks p.block q.block m.owner n.owner kept_x.blocks.names m.owner_at n.owner_at owners in
+    let blocks : p.block ≡ q.block = named_once (λ (k : Block). k.name) x.blocks p.block q.block m.owner n.owner
+    kept_x.blocks.names m.owner_at n.owner_at owners in
     let owner : m.owner ≡ n.owner = same_Some m.owner n.owner (sym m.owner_at ∙ ap (slice_get x.blocks) blocks ∙ n.owner_at) in
     let names : p.file.name ≡ q.file.name = sym m.own_name ∙ ap (λ (h : File). h.name) file ∙ n.own_name in
     let own2 : slice_get m.owner.files n.place ≡ Some q.file = ap (λ (k : Block). slice_get k.files n.place) owner ∙ n.own in
-    let places : m.place ≡ n.place = named_once (λ (h : File). h.name) m.owner.files m.place n.place p.file q.file (named_apart x p.block m.owner (kept_x.blocks.each p.block m.owner m.owner_at)).files m.own own2 names in
+    let places : m.place ≡ n.place = named_once (λ (h : File). h.name) m.owner.files m.place n.place p.file q.file
+    (named_apart x p.block m.owner (kept_x.blocks.each p.block m.owner m.owner_at)).files m.own own2 names in
     let files : p.file ≡ q.file = same_Some p.file q.file (sym m.own ∙ ap (slice_get m.owner.files) places ∙ own2) in
     sym (file_number x kept_x f p at) ∙ ap (λ (h : File). h.number) files ∙ file_number x kept_x g q at2
 
@@ -279,5 +316,6 @@ place_self ns i n apart at = by (place_of n ns) refl
     by None is = absurd (both_ways (bytes_eq n n) (position_none (bytes_eq n) ns is i n at) ((bytes_eq-Decides n n).1 refl))
     by (Some j) is = ap Some (once_there ns j i n apart (stands_at n ns j is).there at)
 
-pub named_self : {X : Type 0} (name_of : X → List ℕ) (xs : List X) (i : ℕ) (a : X) → IsDistinct bytes_eq (map name_of xs) → slice_get xs i ≡ Some a → place_of (name_of a) (map name_of xs) ≡ Some i
+pub named_self : {X : Type 0} (name_of : X → List ℕ) (xs : List X) (i : ℕ) (a : X)
+    → IsDistinct bytes_eq (map name_of xs) → slice_get xs i ≡ Some a → place_of (name_of a) (map name_of xs) ≡ Some i
 named_self name_of xs i a apart at = place_self (map name_of xs) i (name_of a) apart (got_map name_of xs i a at)

@@ -1,5 +1,7 @@
 -- The chains are carried over, number by number.
-use Rattle.std.proofs.Common.{◌≡◌, ◌≢◌, ℕ, zero, suc, ◌+◌, ◌<◌, ◌≤◌, Bool, true, false, ◌||◌, nat_eq, cond, List, [], ◌∷◌, ◌++◌, length, take, map, get_or, Option, Some, None, unwrap_or, refl, sym, ap, ◌∙◌, subst, arith}
+use Rattle.std.proofs.Common.{◌≡◌, ◌≢◌, ℕ, zero, suc, ◌+◌, ◌<◌, ◌≤◌, Bool, true, false, ◌||◌}
+use Rattle.std.proofs.Common.{nat_eq, cond, List, [], ◌∷◌, ◌++◌, length, take, map, get_or, Option}
+use Rattle.std.proofs.Common.{Some, None, unwrap_or, refl, sym, ap, ◌∙◌, subst, arith}
 use lib.Dec.{T}
 use Rattle.std.specs.Prelude.{is_some}
 use Rattle.std.specs.Cmp.{nat_cmp_total, unsigned_tied}
@@ -88,18 +90,25 @@ pub record IsNext (x y : Exchange) (old now : Forlopps) (n : ℕ) : Type 0 where
   pub same : fin.get now.chains n ≡ fin.get old.chains n
   pub held : chain_at now.chains n ≢ []
 
-pub is_next : (x y : Exchange) (old now : Forlopps) (numbers : List ℕ) (i n : ℕ) → numbers ≡ fin.keys old.chains → i < length numbers → n ≡ get_or numbers i n → IsSound now.chains now.dead → ChainsGo x y old now numbers i → IsNext x y old now n
+pub is_next : (x y : Exchange) (old now : Forlopps) (numbers : List ℕ) (i n : ℕ) → numbers ≡ fin.keys old.chains
+    → i < length numbers → n ≡ get_or numbers i n → IsSound now.chains now.dead → ChainsGo x y old now numbers i
+    → IsNext x y old now n
 is_next x y old now numbers i n all inside is sound before =
     let apart : IsDistinct nat_eq numbers = subst (IsDistinct nat_eq) (sym all) (keys_apart old.chains) in
     let same = before.left n (new_number n i numbers apart inside is) in
-    let there : is_some (fin.get now.chains n) ≡ true = ap is_some same ∙ sym (member_is old.chains n) ∙ ap (list_any (nat_eq n)) (sym all) ∙ member_at n i numbers inside is in
+    let there : is_some (fin.get now.chains n) ≡ true = ap is_some same ∙ sym (member_is old.chains n)
+    ∙ ap (list_any (nat_eq n)) (sym all) ∙ member_at n i numbers inside is in
     record { same = same; held = is_held now.chains n sound.some there }
 
-pub next_some : (x y : Exchange) (old now : Forlopps) (numbers : List ℕ) (i n : ℕ) → numbers ≡ fin.keys old.chains → i < length numbers → n ≡ get_or numbers i n → IsSound now.chains now.dead → ChainsGo x y old now numbers i → n ≢ 0
+pub next_some : (x y : Exchange) (old now : Forlopps) (numbers : List ℕ) (i n : ℕ) → numbers ≡ fin.keys old.chains
+    → i < length numbers → n ≡ get_or numbers i n → IsSound now.chains now.dead → ChainsGo x y old now numbers i → n ≢ 0
 next_some x y old now numbers i n all inside is sound before = (sound.live n (is_next x y old now numbers i n all inside is sound before).held).0
 
-pub next_live : (x y : Exchange) (old now ready : Forlopps) (numbers : List ℕ) (i n : ℕ) → numbers ≡ fin.keys old.chains → i < length numbers → n ≡ get_or numbers i n → IsSound now.chains now.dead → ready.dead ≡ now.dead → ChainsGo x y old now numbers i → is_dead ready.dead n ≡ false
-next_live x y old now ready numbers i n all inside is sound dead before = ap (λ d. is_dead d n) dead ∙ (sound.live n (is_next x y old now numbers i n all inside is sound before).held).1
+pub next_live : (x y : Exchange) (old now ready : Forlopps) (numbers : List ℕ) (i n : ℕ) → numbers ≡ fin.keys old.chains
+    → i < length numbers → n ≡ get_or numbers i n → IsSound now.chains now.dead → ready.dead ≡ now.dead
+    → ChainsGo x y old now numbers i → is_dead ready.dead n ≡ false
+next_live x y old now ready numbers i n all inside is sound dead before = ap (λ d. is_dead d n) dead
+    ∙ (sound.live n (is_next x y old now numbers i n all inside is sound before).held).1
 
 get_put : (m : ChainMap) (n q : ℕ) (chain : List Held) → chain ≢ [] → fin.get (with_chain m n chain) q ≡ cond (nat_eq q n) (Some chain) (fin.get m q)
 get_put m n q [] some = absurd (some refl)
@@ -112,8 +121,10 @@ still_some x y (h ∷ chain) some none = absurd (cc)
 any_last : (q n : ℕ) (ns : List ℕ) → list_any (nat_eq q) (ns ++ n ∷ []) ≡ (list_any (nat_eq q) ns || (nat_eq q n || false))
 any_last q n ns = list_any-append (nat_eq q) ns (n ∷ [])
 
-pub chains_more : (x y : Exchange) (old now ready new : Forlopps) (numbers : List ℕ) (i n : ℕ) (chain : List Held) → numbers ≡ fin.keys old.chains → i < length numbers → n ≡ get_or numbers i n → IsSound now.chains now.dead
-    → chain ≡ carried_chain x y (chain_at now.chains n) → ready.chains ≡ now.chains → ready.dead ≡ now.dead → new.chains ≡ with_chain ready.chains n chain → new.dead ≡ ready.dead
+pub chains_more : (x y : Exchange) (old now ready new : Forlopps) (numbers : List ℕ) (i n : ℕ) (chain : List Held)
+    → numbers ≡ fin.keys old.chains → i < length numbers → n ≡ get_or numbers i n → IsSound now.chains now.dead
+    → chain ≡ carried_chain x y (chain_at now.chains n) → ready.chains ≡ now.chains → ready.dead ≡ now.dead
+    → new.chains ≡ with_chain ready.chains n chain → new.dead ≡ ready.dead
     → ChainsGo x y old now numbers i → ChainsGo x y old new numbers (i + 1)
 chains_more x y old now ready new numbers i n chain all inside is sound made ready_chains ready_dead put put_dead before = record {
   dead = put_dead ∙ ready_dead ∙ before.dead;
@@ -140,9 +151,12 @@ chains_more x y old now ready new numbers i n chain all inside is sound made rea
     or_none true h = refl
     or_none false h = h
 
-    by_done : (q : ℕ) (b : Bool) → nat_eq q n ≡ b → (list_any (nat_eq q) (take i numbers) || (nat_eq q n || false)) ≡ true → fin.get new.chains q ≡ Some (carried_chain x y (chain_at old.chains q))
+    by_done : (q : ℕ) (b : Bool) → nat_eq q n ≡ b
+        → (list_any (nat_eq q) (take i numbers) || (nat_eq q n || false)) ≡ true
+        → fin.get new.chains q ≡ Some (carried_chain x y (chain_at old.chains q))
     by_done q true at there =
-        got q ∙ ap (λ b. cond b (Some chain) (fin.get now.chains q)) at ∙ ap Some (as_old ∙ ap (λ k. carried_chain x y (chain_at old.chains k)) (sym (eqb-true q n at)))
+        got q ∙ ap (λ b. cond b (Some chain) (fin.get now.chains q)) at
+        ∙ ap Some (as_old ∙ ap (λ k. carried_chain x y (chain_at old.chains k)) (sym (eqb-true q n at)))
     by_done q false at there =
         got q ∙ ap (λ b. cond b (Some chain) (fin.get now.chains q)) at
         ∙ before.done q (or_none (list_any (nat_eq q) (take i numbers)) (ap (λ b. list_any (nat_eq q) (take i numbers) || (b || false)) (sym at) ∙ there))
@@ -155,7 +169,8 @@ chains_more x y old now ready new numbers i n chain all inside is sound made rea
 
 -- ## All
 
-found_mapped : (f : List Held → List Held) (q : ℕ) (es : List (ℕ × List Held)) → find nat_cmp q (map (λ (e : ℕ × List Held). (e.0, f e.1)) es) ≡ option_map f (find nat_cmp q es)
+found_mapped : (f : List Held → List Held) (q : ℕ) (es : List (ℕ × List Held))
+    → find nat_cmp q (map (λ (e : ℕ × List Held). (e.0, f e.1)) es) ≡ option_map f (find nat_cmp q es)
 found_mapped f q [] = refl
 found_mapped f q (e ∷ es) = by (eq_by_cmp nat_cmp q e.0) (found_mapped f q es)
   where
@@ -178,8 +193,10 @@ chain_at-carried x y m q = ap (λ o. unwrap_or o []) (get-carried x y m q) ∙ b
     by None = refl
     by (Some c) = refl
 
-pub chains_end : (x y : Exchange) (old new : Forlopps) (numbers : List ℕ) (i : ℕ) → numbers ≡ fin.keys old.chains → length numbers ≤ i → ChainsGo x y old new numbers i → new.chains ≡ carried_chains x y old.chains
-chains_end x y old new numbers i all past upto = fin.same_map nat_cmp_total nat_cmp-IsAntisymmetric _ _ (λ q. by q (fin.get old.chains q) refl ∙ sym (get-carried x y old.chains q))
+pub chains_end : (x y : Exchange) (old new : Forlopps) (numbers : List ℕ) (i : ℕ) → numbers ≡ fin.keys old.chains
+    → length numbers ≤ i → ChainsGo x y old new numbers i → new.chains ≡ carried_chains x y old.chains
+chains_end x y old new numbers i all past upto = fin.same_map nat_cmp_total nat_cmp-IsAntisymmetric _ _
+    (λ q. by q (fin.get old.chains q) refl ∙ sym (get-carried x y old.chains q))
   where
     whole : take i numbers ≡ fin.keys old.chains
     whole = take_all i numbers past ∙ all
@@ -189,4 +206,5 @@ chains_end x y old new numbers i all past upto = fin.same_map nat_cmp_total nat_
 
     by : (q : ℕ) (o : Option (List Held)) → fin.get old.chains q ≡ o → fin.get new.chains q ≡ option_map (carried_chain x y) (fin.get old.chains q)
     by q None at = upto.left q (member q ∙ ap is_some at) ∙ at ∙ sym (ap (option_map (carried_chain x y)) at)
-    by q (Some c) at = upto.done q (member q ∙ ap is_some at) ∙ ap (λ o. Some (carried_chain x y (unwrap_or o []))) at ∙ sym (ap (option_map (carried_chain x y)) at)
+    by q (Some c) at = upto.done q (member q ∙ ap is_some at) ∙ ap (λ o. Some (carried_chain x y (unwrap_or o []))) at
+        ∙ sym (ap (option_map (carried_chain x y)) at)

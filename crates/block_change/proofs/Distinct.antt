@@ -38,7 +38,8 @@ files_apart (f ∷ rest) apart = (
   files_apart rest (distinct_right bytes_eq (variable_names f.fields) (joined (map file_part rest)) apart.1),
 )
 
-fields_apart : (fs : List File) → IsDistinct bytes_eq (joined (map file_part fs)) → AllByRecursion (λ (f : File). IsDistinct bytes_eq (variable_names f.fields)) fs
+fields_apart : (fs : List File) → IsDistinct bytes_eq (joined (map file_part fs))
+    → AllByRecursion (λ (f : File). IsDistinct bytes_eq (variable_names f.fields)) fs
 unfolding IsDistinct
 fields_apart [] apart = tt
 fields_apart (f ∷ rest) apart = (
@@ -51,7 +52,8 @@ named_apart x b k kept =
     let vs = variable_names k.variables in
     let fs = joined (map file_part k.files) in
     let ls = map (λ (l : Label). l.name) k.labels in
-    let files = distinct_left bytes_eq fs ls (distinct_right bytes_eq k.temporaries (fs ++ ls) (distinct_right bytes_eq vs (k.temporaries ++ (fs ++ ls)) kept.names)) in
+    let files = distinct_left bytes_eq fs ls (distinct_right bytes_eq k.temporaries (fs ++ ls)
+    (distinct_right bytes_eq vs (k.temporaries ++ (fs ++ ls)) kept.names)) in
     record {
       variables = distinct_left bytes_eq vs (k.temporaries ++ (fs ++ ls)) kept.names;
       files = files_apart k.files files;

@@ -1,9 +1,13 @@
--- An exchange fits exactly where each entry and each FORLOPP FILE has its counterpart, and the first that has none is the misfit.
-use Rattle.std.proofs.Common.{◌≡◌, ◌↔◌, ◌⊎◌, inl, inr, ℕ, zero, suc, ◌<◌, Bool, true, false, not, ◌&&◌, cond, nat_eq, List, [], ◌∷◌, position, get_or, Option, Some, None, slice_get, refl, sym, ap, ◌∙◌, subst, arith}
+-- An exchange fits exactly where each entry and each FORLOPP FILE has its counterpart, and the
+-- first that has none is the misfit.
+use Rattle.std.proofs.Common.{◌≡◌, ◌↔◌, ◌⊎◌, inl, inr, ℕ, zero, suc, ◌<◌, Bool, true, false, not}
+use Rattle.std.proofs.Common.{◌&&◌, cond, nat_eq, List, [], ◌∷◌, position, get_or, Option, Some}
+use Rattle.std.proofs.Common.{None, slice_get, refl, sym, ap, ◌∙◌, subst, arith}
 use Rattle.std.specs.Prelude.{nat_le}
 use Rattle.std.specs.List.{find}
 use Rattle.std.specs.Option.{option_and_then, option_map_or, option_or}
-use Rattle.std.proofs.lemmas.Bool.{eq-eqb, eqb-true, le-leb, not-false, not-true, and_parts, both_ways}
+use Rattle.std.proofs.lemmas.Bool.{eq-eqb, eqb-true, le-leb, not-false, not-true, and_parts}
+use Rattle.std.proofs.lemmas.Bool.{both_ways}
 use Rattle.std.proofs.lemmas.List.Quantifiers.{position-Some}
 use Rattle.std.proofs.lemmas.Option.{get_or_from_slice_get, none-some, same_Some, slice_get-get_or}
 use Rattle.exchange_model.specs.declared.block.Block.{Block}
@@ -15,12 +19,16 @@ use Rattle.exchange_model.specs.Index.{is_entry}
 use Rattle.exchange_model.specs.Kept.{IsExchange, signal_count, signal_name}
 use Rattle.exchange_model.specs.Names.{names_of_blocks, names_of_signals, signal_level}
 use Rattle.block_change.specs.declared.misfit.Misfit.{Misfit}
-use Rattle.block_change.specs.declared.misfit.Misfit.TheVariants.{Entry as EntryMisfit, File as FileMisfit}
-use Rattle.block_change.specs.Counterparts.{Fits, HasEntry, HasFile, IsFirstEntry, IsFirstFile, IsFirstMisfit}
-use Rattle.block_change.specs.Misfits.{agree, entry_signal, first_lacking, first_misfit, has_entry, lacking, lacks, misfit, rank, takes}
+use Rattle.block_change.specs.declared.misfit.Misfit.TheVariants.{Entry as EntryMisfit}
+use Rattle.block_change.specs.declared.misfit.Misfit.TheVariants.{File as FileMisfit}
+use Rattle.block_change.specs.Counterparts.{Fits, HasEntry, HasFile, IsFirstEntry, IsFirstFile}
+use Rattle.block_change.specs.Counterparts.{IsFirstMisfit}
+use Rattle.block_change.specs.Misfits.{agree, entry_signal, first_lacking, first_misfit, has_entry}
+use Rattle.block_change.specs.Misfits.{lacking, lacks, misfit, rank, takes}
 use Rattle.block_change.specs.Names.{file_names, place_of}
 use Rattle.block_change.specs.Same.{file_at, file_named, same_block, same_entry, same_signal}
-use Rattle.block_change.proofs.Alike.{entries_there, files_there, find_none, lacks_not, named_self, one_rank, position_none, taken}
+use Rattle.block_change.proofs.Alike.{entries_there, files_there, find_none, lacks_not, named_self}
+use Rattle.block_change.proofs.Alike.{one_rank, position_none, taken}
 use Rattle.block_change.proofs.Distinct.{named_apart}
 use Rattle.block_change.proofs.Entered.{entry_once}
 use Rattle.block_change.proofs.Lists.{and_then, named_item, then_is}
@@ -33,7 +41,8 @@ has_from x y r is = by (same_entry x y r) refl is
     by : (o : Option ℕ) → same_entry x y r ≡ o → option_map_or (λ n. agree (slice_get x.signals r.signal) (entry_signal y n)) o false ≡ true → HasEntry x y r
     by None same there = absurd (cc)
     by (Some n) same there =
-        let b = and_then (λ b. option_and_then (λ s. position (is_entry b s) y.entries) (same_signal x.signals y.signals r.signal)) (same_block x.blocks y.blocks r.block) n same in
+        let b = and_then (λ b. option_and_then (λ s. position (is_entry b s) y.entries)
+        (same_signal x.signals y.signals r.signal)) (same_block x.blocks y.blocks r.block) n same in
         let s = and_then (λ s. position (is_entry b.0 s) y.entries) (same_signal x.signals y.signals r.signal) n b.2 in
         let k = and_then (λ (l : Block). place_of l.name (names_of_blocks y.blocks)) (slice_get x.blocks r.block) b.0 b.1 in
         let g = and_then (λ (l : SignalKind). place_of (signal_name l) (names_of_signals y.signals)) (slice_get x.signals r.signal) s.0 s.1 in
@@ -48,7 +57,8 @@ has_from x y r is = by (same_entry x y r) refl is
         let like_at : slice_get y.signals q.signal ≡ Some like.0 = ap (slice_get y.signals) signal ∙ like.1 in
         let known : entry_signal y n ≡ Some like.0 = then_is (λ (d : Entry). slice_get y.signals d.signal) (slice_get y.entries n) q (Some like.0) at like_at in
         let agreed : agree (Some g.0) (Some like.0) ≡ true = sym (ap (λ o. agree o (entry_signal y n)) g.1 ∙ ap (agree (Some g.0)) known) ∙ there in
-        let both = and_parts (nat_eq (rank (signal_level (Some g.0))) (rank (signal_level (Some like.0)))) (nat_eq (signal_count g.0) (signal_count like.0)) agreed in
+        let both = and_parts (nat_eq (rank (signal_level (Some g.0))) (rank (signal_level (Some like.0))))
+        (nat_eq (signal_count g.0) (signal_count like.0)) agreed in
         record {
           signal = g.0;
           signal_there = g.1;
@@ -63,7 +73,8 @@ has_from x y r is = by (same_entry x y r) refl is
           home_there = ap (slice_get y.blocks) block ∙ home.1;
           alike = record {
             name = like.2;
-            level = sym (one_rank (signal_level (Some g.0)) (signal_level (Some like.0)) (eqb-true (rank (signal_level (Some g.0))) (rank (signal_level (Some like.0))) both.0));
+            level = sym (one_rank (signal_level (Some g.0)) (signal_level (Some like.0))
+                (eqb-true (rank (signal_level (Some g.0))) (rank (signal_level (Some like.0))) both.0));
             count = sym (eqb-true (signal_count g.0) (signal_count like.0) both.1);
           };
           one_name = home.2;
@@ -74,17 +85,21 @@ has_back x y kept r h =
     let q : Entry = h.entry in
     let block : same_block x.blocks y.blocks r.block ≡ Some q.block =
     then_is (λ (l : Block). place_of l.name (names_of_blocks y.blocks)) (slice_get x.blocks r.block) h.block (Some q.block) h.block_there
-    (ap (λ n. place_of n (names_of_blocks y.blocks)) (sym h.one_name) ∙ named_self (λ (l : Block). l.name) y.blocks q.block h.home kept.blocks.names h.home_there) in
+    (ap (λ n. place_of n (names_of_blocks y.blocks)) (sym h.one_name)
+    ∙ named_self (λ (l : Block). l.name) y.blocks q.block h.home kept.blocks.names h.home_there) in
     let signal : same_signal x.signals y.signals r.signal ≡ Some q.signal =
     then_is (λ (l : SignalKind). place_of (signal_name l) (names_of_signals y.signals)) (slice_get x.signals r.signal) h.signal (Some q.signal) h.signal_there
     (ap (λ n. place_of n (names_of_signals y.signals)) (sym h.alike.name) ∙ named_self signal_name y.signals q.signal h.like kept.signals.names h.like_there) in
     let same : same_entry x y r ≡ Some h.number =
-    then_is (λ b. option_and_then (λ s. position (is_entry b s) y.entries) (same_signal x.signals y.signals r.signal)) (same_block x.blocks y.blocks r.block) q.block (Some h.number) block
-    (then_is (λ s. position (is_entry q.block s) y.entries) (same_signal x.signals y.signals r.signal) q.signal (Some h.number) signal (entry_once y kept h.number q h.there)) in
+    then_is (λ b. option_and_then (λ s. position (is_entry b s) y.entries) (same_signal x.signals y.signals r.signal))
+    (same_block x.blocks y.blocks r.block) q.block (Some h.number) block
+    (then_is (λ s. position (is_entry q.block s) y.entries) (same_signal x.signals y.signals r.signal) q.signal
+    (Some h.number) signal (entry_once y kept h.number q h.there)) in
     ap (λ o. option_map_or (λ n. agree (slice_get x.signals r.signal) (entry_signal y n)) o false) same
     ∙ ap (λ o. agree o (entry_signal y h.number)) h.signal_there
     ∙ ap (agree (Some h.signal)) (then_is (λ (d : Entry). slice_get y.signals d.signal) (slice_get y.entries h.number) q (Some h.like) h.there h.like_there)
-    ∙ ap (λ b. b && nat_eq (signal_count h.signal) (signal_count h.like)) (eq-eqb (rank (signal_level (Some h.signal))) (rank (signal_level (Some h.like))) (ap rank (sym h.alike.level)))
+    ∙ ap (λ b. b && nat_eq (signal_count h.signal) (signal_count h.like))
+    (eq-eqb (rank (signal_level (Some h.signal))) (rank (signal_level (Some h.like))) (ap rank (sym h.alike.level)))
     ∙ eq-eqb (signal_count h.signal) (signal_count h.like) (sym h.alike.count)
 
 -- ## Files
@@ -121,8 +136,10 @@ file_back y kept block f h =
     let apart = (named_apart y h.number h.home (kept.blocks.each h.number h.home h.home_there)).files in
     let named : file_named y.blocks block f.name ≡ Some h.file =
     then_is (file_at y.blocks f.name) (place_of block (names_of_blocks y.blocks)) h.number (Some h.file)
-    (ap (λ n. place_of n (names_of_blocks y.blocks)) (sym h.one_name) ∙ named_self (λ (l : Block). l.name) y.blocks h.number h.home kept.blocks.names h.home_there)
-    (then_is (λ (l : Block). option_and_then (slice_get l.files) (place_of f.name (file_names l.files))) (slice_get y.blocks h.number) h.home (Some h.file) h.home_there
+    (ap (λ n. place_of n (names_of_blocks y.blocks)) (sym h.one_name)
+    ∙ named_self (λ (l : Block). l.name) y.blocks h.number h.home kept.blocks.names h.home_there)
+    (then_is (λ (l : Block). option_and_then (slice_get l.files) (place_of f.name (file_names l.files)))
+    (slice_get y.blocks h.number) h.home (Some h.file) h.home_there
     (then_is (slice_get h.home.files) (place_of f.name (file_names h.home.files)) h.place (Some h.file)
     (ap (λ n. place_of n (file_names h.home.files)) (sym h.own_name) ∙ named_self (λ (g : File). g.name) h.home.files h.place h.file apart h.there) h.there)) in
     ap (λ o. takes o f) named ∙ ap (λ t. t && nat_le f.size h.file.size) h.kind ∙ le-leb f.size h.file.size h.size
@@ -145,7 +162,11 @@ record IsLacked (y : Exchange) (block : List ℕ) (f : File) : Type 0 where
 lacked_is : (y : Exchange) → IsExchange y → (block : List ℕ) (f : File) → lacks y block f ≡ true → IsLacked y block f
 lacked_is y kept block f is =
     let parts = and_parts f.forlopp (not (takes (file_named y.blocks block f.name) f)) is in
-    record { kind = parts.0; lacked = λ h. both_ways (takes (file_named y.blocks block f.name) f) (not-true (takes (file_named y.blocks block f.name) f) parts.1) (file_back y kept block f h) }
+    record {
+      kind = parts.0;
+      lacked = λ h. both_ways (takes (file_named y.blocks block f.name) f)
+          (not-true (takes (file_named y.blocks block f.name) f) parts.1) (file_back y kept block f h);
+    }
 
 -- ## No misfit
 
@@ -173,8 +194,12 @@ no_entry = record { block = 0; signal = 0; point = 0 }
 
 pub fits_none : (x y : Exchange) → IsExchange y → Fits x y → misfit x y ≡ None
 fits_none x y kept fits =
-    ap (λ o. first_misfit o (first_lacking y x.blocks)) (none_found (λ r. not (has_entry x y r)) x.entries no_entry (λ e r at. ap not (has_back x y kept r (fits.entries e r at))))
-    ∙ ap (first_misfit None) (none_lacks y x.blocks (λ b k at. find_nothing (lacks y k.name) k.files (λ j f own. lacks_none y kept k.name f (fits.files b j k f at own))))
+    ap (λ o. first_misfit o (first_lacking y x.blocks))
+    (none_found (λ r. not (has_entry x y r)) x.entries no_entry
+    (λ e r at. ap not (has_back x y kept r (fits.entries e r at))))
+    ∙ ap (first_misfit None) (none_lacks y x.blocks
+    (λ b k at. find_nothing (lacks y k.name) k.files
+    (λ j f own. lacks_none y kept k.name f (fits.files b j k f at own))))
 
 pub none_is : (x y : Exchange) → IsExchange y → (misfit x y ≡ None) ↔ Fits x y
 none_is x y kept = (
@@ -211,7 +236,8 @@ first_of : (y : Exchange) (block : List ℕ) (files : List File) (f : File) → 
 first_of y block [] f is = absurd (none-some f is)
 first_of y block (g ∷ files) f is = by (lacks y block g) refl is (λ more. first_of y block files f more)
   where
-    by : (b : Bool) → lacks y block g ≡ b → cond b (Some g) (find (lacks y block) files) ≡ Some f → (find (lacks y block) files ≡ Some f → FirstOf y block files f) → FirstOf y block (g ∷ files) f
+    by : (b : Bool) → lacks y block g ≡ b → cond b (Some g) (find (lacks y block) files) ≡ Some f
+        → (find (lacks y block) files ≡ Some f → FirstOf y block files f) → FirstOf y block (g ∷ files) f
     by true here is more = let same : g ≡ f = same_Some g f is in record {
       place = 0;
       there = is;
@@ -239,7 +265,8 @@ unfolding first_lacking
 first_in y [] f is = absurd (none-some f is)
 first_in y (k ∷ rest) f is = by (lacking y k) refl is (λ more. first_in y rest f more)
   where
-    by : (o : Option File) → lacking y k ≡ o → option_or o (first_lacking y rest) ≡ Some f → (first_lacking y rest ≡ Some f → FirstIn y rest f) → FirstIn y (k ∷ rest) f
+    by : (o : Option File) → lacking y k ≡ o → option_or o (first_lacking y rest) ≡ Some f
+        → (first_lacking y rest ≡ Some f → FirstIn y rest f) → FirstIn y (k ∷ rest) f
     by (Some g) here is more = record {
       block = 0;
       owner = k;
@@ -258,7 +285,8 @@ first_in y (k ∷ rest) f is = by (lacking y k) refl is (λ more. first_in y res
 no_file : (y : Exchange) (k : Block) → lacking y k ≡ None → (j : ℕ) (f : File) → slice_get k.files j ≡ Some f → f.forlopp ≡ true → HasFile y k.name f
 no_file y k none j f own kind = has_file y k.name f (find_none (lacks y k.name) k.files none j f own) kind
 
-first_file : (x y : Exchange) → IsExchange y → (f : File) → position (λ r. not (has_entry x y r)) x.entries ≡ None → first_lacking y x.blocks ≡ Some f → IsFirstFile x y f.number
+first_file : (x y : Exchange) → IsExchange y → (f : File) → position (λ r. not (has_entry x y r)) x.entries ≡ None
+    → first_lacking y x.blocks ≡ Some f → IsFirstFile x y f.number
 first_file x y kept f none is =
     let i = first_in y x.blocks f is in
     let lacked = lacked_is y kept i.owner.name f i.own.lacks_it in
@@ -276,7 +304,9 @@ first_file x y kept f none is =
       before = λ b j k g less at own kind. earlier i b j k g less at own kind;
     }
   where
-    earlier : (i : FirstIn y x.blocks f) → (b j : ℕ) (k : Block) (g : File) → (b < i.block) ⊎ ((b ≡ i.block) × (j < i.own.place)) → slice_get x.blocks b ≡ Some k → slice_get k.files j ≡ Some g → g.forlopp ≡ true → HasFile y k.name g
+    earlier : (i : FirstIn y x.blocks f) → (b j : ℕ) (k : Block) (g : File)
+        → (b < i.block) ⊎ ((b ≡ i.block) × (j < i.own.place)) → slice_get x.blocks b ≡ Some k
+        → slice_get k.files j ≡ Some g → g.forlopp ≡ true → HasFile y k.name g
     earlier i b j k g (inl less) at own kind = no_file y k (i.before b k less at) j g own kind
     earlier i b j k g (inr here) at own kind =
         let same : i.owner ≡ k = same_Some i.owner k (sym i.owner_there ∙ ap (slice_get x.blocks) (sym here.0) ∙ at) in
@@ -286,7 +316,8 @@ first_file x y kept f none is =
 pub first_is : (x y : Exchange) → IsExchange y → (m : Misfit) → misfit x y ≡ Some m → IsFirstMisfit x y m
 first_is x y kept m is = by (position (λ r. not (has_entry x y r)) x.entries) refl (first_lacking y x.blocks) refl is
   where
-    by : (o : Option ℕ) → position (λ r. not (has_entry x y r)) x.entries ≡ o → (p : Option File) → first_lacking y x.blocks ≡ p → first_misfit o p ≡ Some m → IsFirstMisfit x y m
+    by : (o : Option ℕ) → position (λ r. not (has_entry x y r)) x.entries ≡ o → (p : Option File)
+        → first_lacking y x.blocks ≡ p → first_misfit o p ≡ Some m → IsFirstMisfit x y m
     by (Some e) at p lack is = subst (IsFirstMisfit x y) (same_Some (EntryMisfit e) m is) (first_entry x y kept e at)
     by None at (Some f) lack is = subst (IsFirstMisfit x y) (same_Some (FileMisfit f.number) m is) (first_file x y kept f at lack)
     by None at None lack is = absurd (none-some m is)

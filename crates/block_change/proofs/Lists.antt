@@ -1,5 +1,6 @@
 -- Lists: what holds of all items, and what is made of each; options that follow one another.
-use Rattle.std.proofs.Common.{◌≡◌, ℕ, zero, suc, ◌<◌, List, [], ◌∷◌, length, map, get_or, Option, Some, None, slice_get, true, refl, sym, ap, ◌∙◌, arith}
+use Rattle.std.proofs.Common.{◌≡◌, ℕ, zero, suc, ◌<◌, List, [], ◌∷◌, length, map, get_or, Option}
+use Rattle.std.proofs.Common.{Some, None, slice_get, true, refl, sym, ap, ◌∙◌, arith}
 use Rattle.std.proofs.lemmas.List.{length-map}
 use Rattle.std.proofs.lemmas.List.Quantifiers.{position-Some}
 use Rattle.std.proofs.lemmas.Option.{none-some, same_Some, slice_get-map}
@@ -14,10 +15,12 @@ use Rattle.exchange_model.specs.Kept.{variable_names}
 use Rattle.block_change.specs.declared.directory.BlockNames.{BlockNames}
 use Rattle.block_change.specs.Names.{field_names, names_of, place_of}
 
-pub names_there : (blocks : List Block) (names : List BlockNames) (b : ℕ) (k : Block) → names ≡ map names_of blocks → slice_get blocks b ≡ Some k → slice_get names b ≡ Some (names_of k)
+pub names_there : (blocks : List Block) (names : List BlockNames) (b : ℕ) (k : Block) → names ≡ map names_of blocks
+    → slice_get blocks b ≡ Some k → slice_get names b ≡ Some (names_of k)
 names_there blocks names b k is there = ap (λ ns. slice_get ns b) is ∙ got_map names_of blocks b k there
 
-pub fields_there : (files : List File) (names : List (List (List ℕ))) (i : ℕ) (f : File) → names ≡ field_names files → slice_get files i ≡ Some f → slice_get names i ≡ Some (variable_names f.fields)
+pub fields_there : (files : List File) (names : List (List (List ℕ))) (i : ℕ) (f : File) → names ≡ field_names files
+    → slice_get files i ≡ Some f → slice_get names i ≡ Some (variable_names f.fields)
 fields_there files names i f is there = ap (λ ns. slice_get ns i) is ∙ got_map (λ (g : File). variable_names g.fields) files i f there
 
 -- lists that have the same at each place are one
@@ -56,7 +59,8 @@ stands_at name names i is =
     record { within = p.0; there = stands names i name p.0 p.1 }
 
 -- the item of the list whose names these are
-pub named_item : {X : Type 0} (name_of : X → List ℕ) (xs : List X) (name : List ℕ) (i : ℕ) → place_of name (map name_of xs) ≡ Some i → (x : X) × (slice_get xs i ≡ Some x) × (name_of x ≡ name)
+pub named_item : {X : Type 0} (name_of : X → List ℕ) (xs : List X) (name : List ℕ) (i : ℕ)
+    → place_of name (map name_of xs) ≡ Some i → (x : X) × (slice_get xs i ≡ Some x) × (name_of x ≡ name)
 named_item {X} name_of xs name i is = by (slice_get xs i) refl
   where
     there : slice_get (map name_of xs) i ≡ Some name

@@ -1,5 +1,7 @@
 -- The parts of the books are carried over.
-use Rattle.std.proofs.Common.{◌≡◌, ℕ, zero, suc, ◌+◌, ◌≤◌, Bool, true, false, nat_eq, cond, List, [], ◌∷◌, length, map, drop, Some, None, refl, sym, ap, ◌∙◌, subst, arith}
+use Rattle.std.proofs.Common.{◌≡◌, ℕ, zero, suc, ◌+◌, ◌≤◌, Bool, true, false, nat_eq, cond, List}
+use Rattle.std.proofs.Common.{[], ◌∷◌, length, map, drop, Some, None, refl, sym, ap, ◌∙◌, subst}
+use Rattle.std.proofs.Common.{arith}
 use Rattle.std.specs.HashMap.{get}
 use Rattle.std.specs.Cmp.{nat_cmp_total}
 use Rattle.std.specs.FinMap as fin
@@ -19,7 +21,8 @@ use Rattle.run_books.specs.declared.parts.BookParts.{BookParts}
 use Rattle.source_meaning.specs.State.{Arrived, State}
 use Rattle.source_meaning.specs.Valid.{IsRecord, IsValid}
 use Rattle.source_meaning.proofs.Maps.{all_records_fit}
-use Rattle.block_change.specs.Carried.{AreCarriedWords, IsCarried, carried_arrived, carried_chain, carried_chains, carried_line, new_entries}
+use Rattle.block_change.specs.Carried.{AreCarriedWords, IsCarried, carried_arrived, carried_chain}
+use Rattle.block_change.specs.Carried.{carried_chains, carried_line, new_entries}
 use Rattle.block_change.specs.Misfits.{misfit}
 use Rattle.block_change.specs.Moves.{AreMoved}
 use Rattle.block_change.specs.Renamed.{AreAtLevels, line_with}
@@ -28,12 +31,15 @@ use Rattle.block_change.proofs.Valid.{carried_valid, levels_of, new_records}
 
 -- ## Lines
 
-arrived_carried : (x y : Exchange) (lines : List Line) (given : List ℕ) → arrived_of (map (line_with (new_entries x y)) lines) given ≡ map (carried_arrived x y) (arrived_of lines given)
+arrived_carried : (x y : Exchange) (lines : List Line) (given : List ℕ)
+    → arrived_of (map (line_with (new_entries x y)) lines) given ≡ map (carried_arrived x y) (arrived_of lines given)
 arrived_carried x y [] given = refl
 arrived_carried x y (l ∷ rest) [] = refl
 arrived_carried x y (l ∷ rest) (f ∷ given) = ap (λ got. record { line = carried_line x y (coming_of l); forlopp = f } ∷ got) (arrived_carried x y rest given)
 
-left_carried : (x y : Exchange) (n : ℕ) (lines : List Line) → map coming_of (drop n (map (line_with (new_entries x y)) lines)) ≡ map (carried_line x y) (map coming_of (drop n lines))
+left_carried : (x y : Exchange) (n : ℕ) (lines : List Line)
+    → map coming_of (drop n (map (line_with (new_entries x y)) lines))
+    ≡ map (carried_line x y) (map coming_of (drop n lines))
 left_carried x y zero [] = refl
 left_carried x y zero (l ∷ rest) = ap (λ ls. carried_line x y (coming_of l) ∷ ls) (left_carried x y zero rest)
 left_carried x y (suc n) [] = refl
@@ -66,9 +72,11 @@ len_carried x y m =
     let same = length-map {B = ℕ × List Held} (fin.entries m) (λ (e : ℕ × List Held). (e.0, carried_chain x y e.1)) in
     omega (arith, few, same, fin.len-entries m)
 
-pub records_there : (x y : Exchange) (s : State) (m : ChainMap) → IsExchange x → IsExchange y → misfit x y ≡ None → IsValid x s → m ≡ carried_chains x y s.chains → AllByRecursion (IsRecord y) (all_records m)
+pub records_there : (x y : Exchange) (s : State) (m : ChainMap) → IsExchange x → IsExchange y → misfit x y ≡ None
+    → IsValid x s → m ≡ carried_chains x y s.chains → AllByRecursion (IsRecord y) (all_records m)
 records_there x y s m kept_x kept_y fits valid is =
-    subst (AllByRecursion (IsRecord y)) (sym (ap all_records is)) (all_records_fit (IsRecord y) (carried_chains x y s.chains) (new_records x y kept_x kept_y fits s valid []))
+    subst (AllByRecursion (IsRecord y)) (sym (ap all_records is))
+    (all_records_fit (IsRecord y) (carried_chains x y s.chains) (new_records x y kept_x kept_y fits s valid []))
 
 pub levels_there : (x : Exchange) (s : State) → IsValid x s → AreAtLevels s.waiting
 levels_there x s valid = levels_of x s valid.waiting
@@ -86,7 +94,8 @@ module _ (x y : Exchange) (p q : BookParts) (moved : AreMoved x y p q) where
   parts_kept parts = record {
     next_line = moved.next_line ∙ parts.next_line ∙ ap length (sym moved.given);
     within = let within = parts.within in omega (arith, within, ap length moved.given, ap length moved.lines, length-map p.lines (line_with (new_entries x y)));
-    numbers = λ n. ap (λ t. get nat_eq t n) moved.numbers ∙ parts.numbers n ∙ sym (ap (λ got. found_in got n) arrived_is ∙ found_carried x y (arrived_of p.lines p.given) n);
+    numbers = λ n. ap (λ t. get nat_eq t n) moved.numbers ∙ parts.numbers n
+        ∙ sym (ap (λ got. found_in got n) arrived_is ∙ found_carried x y (arrived_of p.lines p.given) n);
     kept =
         let k = parts.kept in
         let some = k.some in
@@ -113,12 +122,16 @@ module _ (x y : Exchange) (p q : BookParts) (moved : AreMoved x y p q) where
           some = omega (arith, some, n);
           next = omega (arith, next, n, e, arrived, arrived_many);
           lines = omega (arith, lines, arrived, arrived_many, left, left_many);
-          below = subst (λ m. AreBelow m q.next_forlopp) (sym moved.chains) (subst (AreBelow (carried_chains x y p.chains.chains)) (sym n) (below_carried x y p.chains.chains p.next_forlopp k.below));
+          below = subst (λ m. AreBelow m q.next_forlopp) (sym moved.chains)
+              (subst (AreBelow (carried_chains x y p.chains.chains)) (sym n)
+              (below_carried x y p.chains.chains p.next_forlopp k.below));
           chains = omega (arith, chains, len, fewer, e);
         };
   }
 
-  pub parts_carried : (words slice carried : List ℕ) → slice ≡ words → AreCarriedWords x y slice (all_records q.chains.chains) carried → IsCarried x y (with_words (account_of p).state words) (with_words (account_of q).state carried)
+  pub parts_carried : (words slice carried : List ℕ) → slice ≡ words
+      → AreCarriedWords x y slice (all_records q.chains.chains) carried
+      → IsCarried x y (with_words (account_of p).state words) (with_words (account_of q).state carried)
   parts_carried words slice carried same are = record {
     books = λ i. record {
       store = carried;
@@ -135,7 +148,9 @@ module _ (x y : Exchange) (p q : BookParts) (moved : AreMoved x y p q) where
     words = subst (λ ws. AreCarriedWords x y ws (all_records q.chains.chains) carried) same are;
   }
 
-  pub parts_valid : (words slice carried : List ℕ) → slice ≡ words → IsExchange x → IsExchange y → misfit x y ≡ None → IsValid x (with_words (account_of p).state words)
+  pub parts_valid : (words slice carried : List ℕ) → slice ≡ words → IsExchange x → IsExchange y → misfit x y ≡ None
+      → IsValid x (with_words (account_of p).state words)
       → AreCarriedWords x y slice (all_records q.chains.chains) carried → IsValid y (with_words (account_of q).state carried)
   parts_valid words slice carried same kept_x kept_y fits valid are =
-      carried_valid x y (with_words (account_of p).state words) (with_words (account_of q).state carried) kept_x kept_y fits valid (parts_carried words slice carried same are)
+      carried_valid x y (with_words (account_of p).state words) (with_words (account_of q).state carried) kept_x kept_y
+      fits valid (parts_carried words slice carried same are)

@@ -1,5 +1,7 @@
 -- Where both exchanges are one, nothing changes but the events.
-use Rattle.std.proofs.Common.{◌≡◌, ◌⊎◌, inl, inr, ℕ, ◌<◌, ◌^◌, Bool, true, false, ◌||◌, List, [], ◌∷◌, ◌++◌, length, map, position, Option, Some, None, unwrap_or, slice_get, refl, sym, ap, ◌∙◌, subst, arith, if◌then◌else◌}
+use Rattle.std.proofs.Common.{◌≡◌, ◌⊎◌, inl, inr, ℕ, ◌<◌, ◌^◌, Bool, true, false, ◌||◌, List, []}
+use Rattle.std.proofs.Common.{◌∷◌, ◌++◌, length, map, position, Option, Some, None, unwrap_or}
+use Rattle.std.proofs.Common.{slice_get, refl, sym, ap, ◌∙◌, subst, arith, if◌then◌else◌}
 use Rattle.std.specs.Prelude.{slice_index}
 use Rattle.std.specs.Cmp.{nat_cmp_total}
 use Rattle.std.specs.FinMap as fin
@@ -9,20 +11,24 @@ use Rattle.std.specs.Option.{option_and_then, option_map, option_map_or}
 use Rattle.std.specs.Str.{bytes_eq}
 use Rattle.std.proofs.lemmas.Bool.{lt-ltb, both_ways, cases_Bool, or_right}
 use Rattle.std.proofs.lemmas.Option.{get_or_from_slice_get}
-use Rattle.plex_num.proofs.Lists.{all_at as every_at, all_left, all_right, some_at, got_map, all_weaker}
+use Rattle.plex_num.proofs.Lists.{all_at as every_at, all_left, all_right, some_at, got_map}
+use Rattle.plex_num.proofs.Lists.{all_weaker}
 use Rattle.exchange_model.specs.declared.block.Block.{Block}
 use Rattle.exchange_model.specs.declared.block.File.{File}
 use Rattle.exchange_model.specs.declared.block.Variable.{Variable}
 use Rattle.exchange_model.specs.declared.entry.Cell.{Cell}
-use Rattle.exchange_model.specs.declared.entry.Cell.TheVariants.{Variable as VariableCell, Field, Mark}
+use Rattle.exchange_model.specs.declared.entry.Cell.TheVariants.{Variable as VariableCell, Field}
+use Rattle.exchange_model.specs.declared.entry.Cell.TheVariants.{Mark}
 use Rattle.exchange_model.specs.declared.entry.Entry.{Entry}
 use Rattle.exchange_model.specs.declared.exchange.Exchange.{Exchange}
 use Rattle.exchange_model.specs.declared.signal.SignalKind.{SignalKind}
-use Rattle.exchange_model.specs.Cells.{IsCell, Placed, cell_number, mark_cell, placed_files, variable_cell}
+use Rattle.exchange_model.specs.Cells.{IsCell, Placed, cell_number, mark_cell, placed_files}
+use Rattle.exchange_model.specs.Cells.{variable_cell}
 use Rattle.exchange_model.specs.Index.{is_entry}
 use Rattle.exchange_model.specs.Kept.{IsExchange, signal_name, variable_names}
 use Rattle.exchange_model.proofs.Facts.{file_number}
-use Rattle.exchange_model.proofs.Numbers.{cell_number-field, cell_number-mark, cell_numbered, there_from}
+use Rattle.exchange_model.proofs.Numbers.{cell_number-field, cell_number-mark, cell_numbered}
+use Rattle.exchange_model.proofs.Numbers.{there_from}
 use Rattle.exchange_model.proofs.Places.{stands}
 use Rattle.job_types.specs.declared.chain.Held.{Held}
 use Rattle.job_types.specs.declared.job.Job.{Job}
@@ -39,12 +45,16 @@ use Rattle.source_meaning.specs.State.{Arrived, Coming, State}
 use Rattle.source_meaning.specs.Valid.{HoldsRecord, IsRecord, IsValid, LinesFit, WaitsAt}
 use Rattle.source_meaning.proofs.Chains.{record_is, record_itself}
 use Rattle.source_meaning.proofs.Maps.{all_records_fit, held_among_all}
-use Rattle.block_change.specs.Carried.{AreCarriedWords, IsCarried, carried_arrived, carried_chain, carried_chains, carried_held, carried_line, carried_value, carried_waiting, carried_with, kept_value, mark_value, new_entries, new_entry, new_file, number_for, old_value}
+use Rattle.block_change.specs.Carried.{AreCarriedWords, IsCarried, carried_arrived, carried_chain}
+use Rattle.block_change.specs.Carried.{carried_chains, carried_held, carried_line, carried_value}
+use Rattle.block_change.specs.Carried.{carried_waiting, carried_with, kept_value, mark_value}
+use Rattle.block_change.specs.Carried.{new_entries, new_entry, new_file, number_for, old_value}
 use Rattle.block_change.specs.Misfits.{misfit}
 use Rattle.block_change.specs.Names.{file_names, place_of}
 use Rattle.exchange_model.specs.Names.{names_of_blocks, names_of_signals}
 use Rattle.block_change.specs.Renamed.{job_with}
-use Rattle.block_change.specs.Same.{cell_variable, field_cell_in, file_at, same_block, same_cell, same_entry, same_file, same_signal, variable_cell_at}
+use Rattle.block_change.specs.Same.{cell_variable, field_cell_in, file_at, same_block, same_cell}
+use Rattle.block_change.specs.Same.{same_entry, same_file, same_signal, variable_cell_at}
 use Rattle.block_change.proofs.Alike.{named_self}
 use Rattle.block_change.proofs.Chaining.{get-carried}
 use Rattle.block_change.proofs.Distinct.{named_apart}
@@ -60,30 +70,38 @@ map_same P f (a ∷ xs) each all = λ i. each a all.0 i ∷ map_same P f xs each
 
 module _ (x : Exchange) (kept : IsExchange x) where
   block_self : (b : ℕ) (k : Block) → slice_get x.blocks b ≡ Some k → same_block x.blocks x.blocks b ≡ Some b
-  block_self b k at = then_is (λ (l : Block). place_of l.name (names_of_blocks x.blocks)) (slice_get x.blocks b) k (Some b) at (named_self (λ (l : Block). l.name) x.blocks b k kept.blocks.names at)
+  block_self b k at = then_is (λ (l : Block). place_of l.name (names_of_blocks x.blocks)) (slice_get x.blocks b) k
+      (Some b) at (named_self (λ (l : Block). l.name) x.blocks b k kept.blocks.names at)
 
   signal_self : (n : ℕ) (k : SignalKind) → slice_get x.signals n ≡ Some k → same_signal x.signals x.signals n ≡ Some n
-  signal_self n k at = then_is (λ (l : SignalKind). place_of (signal_name l) (names_of_signals x.signals)) (slice_get x.signals n) k (Some n) at (named_self signal_name x.signals n k kept.signals.names at)
+  signal_self n k at = then_is (λ (l : SignalKind). place_of (signal_name l) (names_of_signals x.signals))
+      (slice_get x.signals n) k (Some n) at (named_self signal_name x.signals n k kept.signals.names at)
 
   pub entry_self : (e : ℕ) (r : Entry) → slice_get x.entries e ≡ Some r → same_entry x x r ≡ Some e
   entry_self e r at =
       let is = entry_known x kept e r at in
-      then_is (λ b. option_and_then (λ s. position (is_entry b s) x.entries) (same_signal x.signals x.signals r.signal)) (same_block x.blocks x.blocks r.block) r.block (Some e) (block_self r.block is.block is.block_there)
-      (then_is (λ s. position (is_entry r.block s) x.entries) (same_signal x.signals x.signals r.signal) r.signal (Some e) (signal_self r.signal is.kind is.kind_there) (entry_once x kept e r at))
+      then_is (λ b. option_and_then (λ s. position (is_entry b s) x.entries) (same_signal x.signals x.signals r.signal))
+      (same_block x.blocks x.blocks r.block) r.block (Some e) (block_self r.block is.block is.block_there)
+      (then_is (λ s. position (is_entry r.block s) x.entries) (same_signal x.signals x.signals r.signal) r.signal
+      (Some e) (signal_self r.signal is.kind is.kind_there) (entry_once x kept e r at))
 
   entry_is : (e : ℕ) → e < length x.entries → new_entry x x e ≡ e
   entry_is e inside =
       let r = some_at x.entries e inside in
-      get_or_from_slice_get (new_entries x x) e (number_for x x r.0) 0 (got_map (number_for x x) x.entries e r.0 r.1) ∙ ap (λ o. unwrap_or o 0) (entry_self e r.0 r.1)
+      get_or_from_slice_get (new_entries x x) e (number_for x x r.0) 0 (got_map (number_for x x) x.entries e r.0 r.1)
+      ∙ ap (λ o. unwrap_or o 0) (entry_self e r.0 r.1)
 
   pub file_self : (f : ℕ) (p : Placed) → slice_get (placed_files x.blocks) f ≡ Some p → same_file x.blocks x.blocks f ≡ Some p.file
   file_self f p at =
       let s = stands x.blocks f p at in
       let apart = named_apart x p.block s.owner (kept.blocks.each p.block s.owner s.there) in
-      then_is (λ (q : Placed). option_and_then (file_at x.blocks q.file.name) (same_block x.blocks x.blocks q.block)) (slice_get (placed_files x.blocks) f) p (Some p.file) at
+      then_is (λ (q : Placed). option_and_then (file_at x.blocks q.file.name) (same_block x.blocks x.blocks q.block))
+      (slice_get (placed_files x.blocks) f) p (Some p.file) at
       (then_is (file_at x.blocks p.file.name) (same_block x.blocks x.blocks p.block) p.block (Some p.file) (block_self p.block s.owner s.there)
-      (then_is (λ (k : Block). option_and_then (slice_get k.files) (place_of p.file.name (file_names k.files))) (slice_get x.blocks p.block) s.owner (Some p.file) s.there
-      (then_is (slice_get s.owner.files) (place_of p.file.name (file_names s.owner.files)) s.place (Some p.file) (named_self (λ (g : File). g.name) s.owner.files s.place p.file apart.files s.own) s.own)))
+      (then_is (λ (k : Block). option_and_then (slice_get k.files) (place_of p.file.name (file_names k.files)))
+      (slice_get x.blocks p.block) s.owner (Some p.file) s.there
+      (then_is (slice_get s.owner.files) (place_of p.file.name (file_names s.owner.files)) s.place (Some p.file)
+      (named_self (λ (g : File). g.name) s.owner.files s.place p.file apart.files s.own) s.own)))
 
   file_is : (f : ℕ) (p : Placed) → slice_get (placed_files x.blocks) f ≡ Some p → new_file x x f ≡ f
   file_is f p at = ap (λ o. option_map_or (λ (g : File). g.number) o 0) (file_self f p at) ∙ file_number x kept f p at
@@ -97,20 +115,28 @@ module _ (x : Exchange) (kept : IsExchange x) where
 
   -- ## Cells
 
-  variable_self : (b v : ℕ) (k : Block) (e : Variable) → slice_get x.blocks b ≡ Some k → slice_get k.variables v ≡ Some e → same_cell x.blocks x.blocks (VariableCell b v) ≡ Some (VariableCell b v)
+  variable_self : (b v : ℕ) (k : Block) (e : Variable) → slice_get x.blocks b ≡ Some k
+      → slice_get k.variables v ≡ Some e → same_cell x.blocks x.blocks (VariableCell b v) ≡ Some (VariableCell b v)
   variable_self b v k e at own =
       let apart = named_apart x b k (kept.blocks.each b k at) in
-      then_is (λ (d : Variable). option_and_then (variable_cell_at x.blocks d.name) (same_block x.blocks x.blocks b)) (cell_variable x.blocks (VariableCell b v)) e (Some (VariableCell b v)) (ap (option_and_then (λ (l : Block). slice_get l.variables v)) at ∙ own)
+      then_is (λ (d : Variable). option_and_then (variable_cell_at x.blocks d.name) (same_block x.blocks x.blocks b))
+      (cell_variable x.blocks (VariableCell b v)) e (Some (VariableCell b v))
+      (ap (option_and_then (λ (l : Block). slice_get l.variables v)) at ∙ own)
       (then_is (variable_cell_at x.blocks e.name) (same_block x.blocks x.blocks b) b (Some (VariableCell b v)) (block_self b k at)
       (then_is (λ (l : Block). option_map (VariableCell b) (place_of e.name (variable_names l.variables))) (slice_get x.blocks b) k (Some (VariableCell b v)) at
       (ap (option_map (VariableCell b)) (named_self (λ (d : Variable). d.name) k.variables v e apart.variables own))))
 
-  field_self : (f n i : ℕ) (p : Placed) (e : Variable) → slice_get (placed_files x.blocks) f ≡ Some p → n < p.file.size → slice_get p.file.fields i ≡ Some e → same_cell x.blocks x.blocks (Field f n i) ≡ Some (Field f n i)
+  field_self : (f n i : ℕ) (p : Placed) (e : Variable) → slice_get (placed_files x.blocks) f ≡ Some p → n < p.file.size
+      → slice_get p.file.fields i ≡ Some e → same_cell x.blocks x.blocks (Field f n i) ≡ Some (Field f n i)
   field_self f n i p e at within own =
       let s = stands x.blocks f p at in
       let apart = named_apart x p.block s.owner (kept.blocks.each p.block s.owner s.there) in
-      let names : IsDistinct bytes_eq (variable_names p.file.fields) = every_at (λ (g : File). IsDistinct bytes_eq (variable_names g.fields)) s.owner.files s.place p.file apart.fields s.own in
-      then_is (λ (d : Variable). option_and_then (field_cell_in d.name n) (same_file x.blocks x.blocks f)) (cell_variable x.blocks (Field f n i)) e (Some (Field f n i)) (ap (option_and_then (λ (q : Placed). slice_get q.file.fields i)) at ∙ own)
+      let names : IsDistinct bytes_eq (variable_names p.file.fields) = every_at
+      (λ (g : File). IsDistinct bytes_eq (variable_names g.fields)) s.owner.files s.place p.file apart.fields s.own
+      in
+      then_is (λ (d : Variable). option_and_then (field_cell_in d.name n) (same_file x.blocks x.blocks f))
+      (cell_variable x.blocks (Field f n i)) e (Some (Field f n i))
+      (ap (option_and_then (λ (q : Placed). slice_get q.file.fields i)) at ∙ own)
       (then_is (field_cell_in e.name n) (same_file x.blocks x.blocks f) p.file (Some (Field f n i)) (file_self f p at)
       (ap (λ b. if b then option_map (Field p.file.number n) (place_of e.name (variable_names p.file.fields)) else None) (lt-ltb n p.file.size within)
       ∙ ap (option_map (Field p.file.number n)) (named_self (λ (d : Variable). d.name) p.file.fields i e names own)
@@ -124,16 +150,25 @@ module _ (x : Exchange) (kept : IsExchange x) where
 
     members : (chain : List Held) → AllByRecursion (λ (h : Held). holds chain h.file h.number ≡ true) chain
     members [] = tt
-    members (h ∷ rest) = (ap (λ b. b || holds rest h.file h.number) (record_itself h.file h.number), all_weaker (λ (g : Held). holds rest g.file g.number ≡ true) (λ (g : Held). holds (h ∷ rest) g.file g.number ≡ true) rest (λ g is. or_right (is_record g.file g.number h) (holds rest g.file g.number) is) (members rest))
+    members (h ∷ rest) = (
+      ap (λ b. b || holds rest h.file h.number) (record_itself h.file h.number),
+      all_weaker
+          (λ (g : Held). holds rest g.file g.number ≡ true) (λ (g : Held). holds (h ∷ rest) g.file g.number ≡ true) rest
+          (λ g is. or_right (is_record g.file g.number h) (holds rest g.file g.number) is) (members rest),
+    )
 
     all_held : (f n : ℕ) → AllByRecursion (IsHeld f n) (all_records s.chains)
-    all_held f n = all_records_fit (IsHeld f n) s.chains (λ m. all_weaker (λ (h : Held). HoldsRecord s m h) (IsHeld f n) (chain_at s.chains m) (λ h is. record { forlopp = m; held = is }) (members (chain_at s.chains m)))
+    all_held f n = all_records_fit (IsHeld f n) s.chains
+        (λ m. all_weaker (λ (h : Held). HoldsRecord s m h) (IsHeld f n) (chain_at s.chains m)
+        (λ h is. record { forlopp = m; held = is }) (members (chain_at s.chains m)))
 
     one_held : (f n : ℕ) (rs : List Held) → AllByRecursion (IsHeld f n) rs → holds rs f n ≡ true → (m : ℕ) × HoldsRecord s m (record { file = f; number = n })
     one_held f n [] all is = absurd (cc)
     one_held f n (h ∷ rest) all is = by (is_record f n h) refl (one_held f n rest all.1) is
       where
-        by : (b : Bool) → is_record f n h ≡ b → (holds rest f n ≡ true → (m : ℕ) × HoldsRecord s m (record { file = f; number = n })) → (b || holds rest f n) ≡ true → (m : ℕ) × HoldsRecord s m (record { file = f; number = n })
+        by : (b : Bool) → is_record f n h ≡ b → (holds rest f n ≡ true
+            → (m : ℕ) × HoldsRecord s m (record { file = f; number = n })) → (b || holds rest f n) ≡ true
+            → (m : ℕ) × HoldsRecord s m (record { file = f; number = n })
         by false at more is = more is
         by true at more is =
             let same = record_is f n h at in
@@ -147,11 +182,13 @@ module _ (x : Exchange) (kept : IsExchange x) where
         by (inr absent) = absent
         by (inl there) = absurd (both_ways (holds (all_records s.chains) f n) none (held_among_all s.chains m f n there))
 
-    mark_self : (f n : ℕ) (p : Placed) → slice_get (placed_files x.blocks) f ≡ Some p → n < p.file.size → p.file.forlopp ≡ true → mark_value (holds (all_records s.chains) f n) ≡ slice_index s.store (mark_cell p n)
+    mark_self : (f n : ℕ) (p : Placed) → slice_get (placed_files x.blocks) f ≡ Some p → n < p.file.size
+        → p.file.forlopp ≡ true → mark_value (holds (all_records s.chains) f n) ≡ slice_index s.store (mark_cell p n)
     unfolding files_of
     mark_self f n p at within kind = by (cases_Bool (holds (all_records s.chains) f n))
       where
-        by : (holds (all_records s.chains) f n ≡ true) ⊎ (holds (all_records s.chains) f n ≡ false) → mark_value (holds (all_records s.chains) f n) ≡ slice_index s.store (mark_cell p n)
+        by : (holds (all_records s.chains) f n ≡ true) ⊎ (holds (all_records s.chains) f n ≡ false)
+            → mark_value (holds (all_records s.chains) f n) ≡ slice_index s.store (mark_cell p n)
         by (inl there) =
             let one = one_held f n (all_records s.chains) (all_held f n) there in
             ap mark_value there ∙ sym (valid.marks.held one.0 (record { file = f; number = n }) p at one.1)
@@ -174,7 +211,8 @@ module _ (x : Exchange) (kept : IsExchange x) where
         let e = some_at p.value.file.fields i p.holds.1 in
         let here : cell_variable x.blocks (Field f n i) ≡ Some e.0 = ap (option_and_then (λ (q : Placed). slice_get q.file.fields i)) p.is ∙ e.1 in
         let number = cell_number-field x.blocks f n i p.value p.is in
-        let small = subst (λ k. slice_index s.store k < 2 ^ e.0.width) (sym number) (valid.store.fields f n i p.value e.0 (record { there = p.is; within = p.holds.0 }) e.1) in
+        let small = subst (λ k. slice_index s.store k < 2 ^ e.0.width) (sym number)
+        (valid.store.fields f n i p.value e.0 (record { there = p.is; within = p.holds.0 }) e.1) in
         ap (λ o. option_map_or (λ (d : Variable). kept_value d (old_value x x s.store (Field f n i))) o 0) here
         ∙ ap (λ o. kept_value e.0 (option_map (λ d. slice_index s.store (cell_number x.blocks d)) o)) (field_self f n i p.value e.0 p.is p.holds.0 e.1)
         ∙ value_fits e.0 (slice_index s.store (cell_number x.blocks (Field f n i))) small
@@ -260,7 +298,8 @@ pub goes_over : (x : Exchange) (s : State) → IsExchange x → IsValid x s → 
 goes_over x s kept valid = state_goes x kept s valid
 
 -- so do the stored words, and the parts of the books
-pub parts_same : (x : Exchange) (p q : BookParts) (words carried : List ℕ) → IsExchange x → AreParts p → AreParts q → q.limit ≡ p.limit → IsValid x (with_words (account_of p).state words)
+pub parts_same : (x : Exchange) (p q : BookParts) (words carried : List ℕ) → IsExchange x → AreParts p → AreParts q
+    → q.limit ≡ p.limit → IsValid x (with_words (account_of p).state words)
     → IsCarried x x (with_words (account_of p).state words) (with_words (account_of q).state carried) → AreAlike p q × (carried ≡ words)
 parts_same x p q words carried kept are_p are_q limit valid is =
     let same = carried_same x (with_words (account_of p).state words) (with_words (account_of q).state carried) kept valid is in

@@ -1,5 +1,7 @@
 -- A state that is carried over is one that the other exchange can be in.
-use Rattle.std.proofs.Common.{◌≡◌, ◌⊎◌, inl, inr, ℕ, zero, suc, ◌<◌, ◌≤◌, ◌^◌, Bool, true, false, ◌||◌, nat_lt, List, [], ◌∷◌, ◌++◌, length, map, Option, Some, None, slice_get, refl, sym, ap, ◌∙◌, subst, arith, if◌then◌else◌}
+use Rattle.std.proofs.Common.{◌≡◌, ◌⊎◌, inl, inr, ℕ, zero, suc, ◌<◌, ◌≤◌, ◌^◌, Bool, true, false}
+use Rattle.std.proofs.Common.{◌||◌, nat_lt, List, [], ◌∷◌, ◌++◌, length, map, Option, Some, None}
+use Rattle.std.proofs.Common.{slice_get, refl, sym, ap, ◌∙◌, subst, arith, if◌then◌else◌}
 use Rattle.std.specs.Prelude.{slice_index}
 use Rattle.std.specs.List.{AllByRecursion}
 use Rattle.std.specs.Option.{option_and_then, option_map_or}
@@ -12,22 +14,28 @@ use Rattle.plex_num.specs.declared.level.Level.TheVariants.{A, B, C, D}
 use Rattle.plex_num.proofs.Lists.{got_map, all_weaker}
 use Rattle.exchange_model.specs.declared.block.Block.{Block}
 use Rattle.exchange_model.specs.declared.block.Variable.{Variable}
-use Rattle.exchange_model.specs.declared.entry.Cell.TheVariants.{Variable as VariableCell, Field, Mark}
+use Rattle.exchange_model.specs.declared.entry.Cell.TheVariants.{Variable as VariableCell, Field}
+use Rattle.exchange_model.specs.declared.entry.Cell.TheVariants.{Mark}
 use Rattle.exchange_model.specs.declared.exchange.Exchange.{Exchange}
 use Rattle.exchange_model.specs.Cells.{Placed, mark_cell, placed_files}
 use Rattle.exchange_model.specs.Kept.{IsExchange}
 use Rattle.exchange_model.proofs.Facts.{field_kept, variable_kept}
-use Rattle.exchange_model.proofs.Numbers.{cell_number-field, cell_number-mark, field_is_cell, mark_is_cell, variable_is_cell}
+use Rattle.exchange_model.proofs.Numbers.{cell_number-field, cell_number-mark, field_is_cell}
+use Rattle.exchange_model.proofs.Numbers.{mark_is_cell, variable_is_cell}
 use Rattle.job_types.specs.declared.chain.Held.{Held}
 use Rattle.job_types.specs.declared.job.Job.{Job}
 use Rattle.job_types.specs.Chain.{holds, is_record}
 use Rattle.job_types.specs.Forlopps.{all_records, chain_at}
 use Rattle.source_meaning.specs.Config.{files_of}
 use Rattle.source_meaning.specs.State.{Arrived, Bare, Coming, Fresh, Origin, Same, State}
-use Rattle.source_meaning.specs.Valid.{ChainsFit, HasRecords, HoldsRecord, IsJob, IsLive, IsOnce, IsRecord, IsValid, LineFits, LinesFit, MarksFit, MayBe, NamesEarlier, NumbersFit, StoreFits, WaitingFits, WaitsAt}
+use Rattle.source_meaning.specs.Valid.{ChainsFit, HasRecords, HoldsRecord, IsJob, IsLive, IsOnce}
+use Rattle.source_meaning.specs.Valid.{IsRecord, IsValid, LineFits, LinesFit, MarksFit, MayBe}
+use Rattle.source_meaning.specs.Valid.{NamesEarlier, NumbersFit, StoreFits, WaitingFits, WaitsAt}
 use Rattle.source_meaning.proofs.Chains.{record_is, record_itself}
 use Rattle.source_meaning.proofs.Maps.{all_records_fit, held_among_all}
-use Rattle.block_change.specs.Carried.{AreCarriedWords, IsCarried, carried_arrived, carried_chain, carried_chains, carried_held, carried_line, carried_with, kept_value, mark_value, new_entries, new_file, old_value}
+use Rattle.block_change.specs.Carried.{AreCarriedWords, IsCarried, carried_arrived, carried_chain}
+use Rattle.block_change.specs.Carried.{carried_chains, carried_held, carried_line, carried_with}
+use Rattle.block_change.specs.Carried.{kept_value, mark_value, new_entries, new_file, old_value}
 use Rattle.block_change.specs.Misfits.{misfit}
 use Rattle.block_change.specs.Renamed.{AreAtLevels, job_with}
 use Rattle.block_change.specs.Same.{cell_variable}
@@ -36,7 +44,8 @@ use Rattle.block_change.proofs.Chaining.{chain_at-carried}
 
 -- ## Lists
 
-all_mapped : {X Y : Type 0} (P : X → Type 0) (Q : Y → Type 0) (f : X → Y) (xs : List X) → ((x : X) → P x → Q (f x)) → AllByRecursion P xs → AllByRecursion Q (map f xs)
+all_mapped : {X Y : Type 0} (P : X → Type 0) (Q : Y → Type 0) (f : X → Y) (xs : List X) → ((x : X) → P x → Q (f x))
+    → AllByRecursion P xs → AllByRecursion Q (map f xs)
 all_mapped P Q f [] each all = tt
 all_mapped P Q f (x ∷ xs) each all = (each x all.0, all_mapped P Q f xs each all.1)
 
@@ -59,23 +68,35 @@ pub record ComesOf (x y : Exchange) (chain : List Held) (f n : ℕ) : Type 0 whe
   pub file : new_file x y old.file ≡ f
   pub number : old.number ≡ n
 
-held_back : (x y : Exchange) (chain : List Held) (f n : ℕ) → AllByRecursion (IsRecord x) chain → holds (carried_chain x y chain) f n ≡ true → ComesOf x y chain f n
+held_back : (x y : Exchange) (chain : List Held) (f n : ℕ) → AllByRecursion (IsRecord x) chain
+    → holds (carried_chain x y chain) f n ≡ true → ComesOf x y chain f n
 held_back x y [] f n all is = absurd (cc)
 held_back x y (h ∷ rest) f n all is = by (is_record f n (carried_held x y h)) refl (held_back x y rest f n all.1) is
   where
-    by : (b : Bool) → is_record f n (carried_held x y h) ≡ b → (holds (carried_chain x y rest) f n ≡ true → ComesOf x y rest f n) → (b || holds (carried_chain x y rest) f n) ≡ true → ComesOf x y (h ∷ rest) f n
+    by : (b : Bool) → is_record f n (carried_held x y h) ≡ b
+        → (holds (carried_chain x y rest) f n ≡ true → ComesOf x y rest f n)
+        → (b || holds (carried_chain x y rest) f n) ≡ true → ComesOf x y (h ∷ rest) f n
     by true at more is =
         let same = record_is f n (carried_held x y h) at in
         record { old = h; fits = all.0; held = ap (λ b. b || holds rest h.file h.number) (record_itself h.file h.number); file = same.0; number = same.1 }
     by false at more is =
         let r = more is in
-        record { old = r.old; fits = r.fits; held = or_right (is_record r.old.file r.old.number h) (holds rest r.old.file r.old.number) r.held; file = r.file; number = r.number }
+        record {
+          old = r.old;
+          fits = r.fits;
+          held = or_right (is_record r.old.file r.old.number h)
+              (holds rest r.old.file r.old.number) r.held;
+          file = r.file;
+          number = r.number;
+        }
 
 all_false : (chain : List Held) (f n : ℕ) → holds chain f n ≡ false → AllByRecursion (λ (h : Held). is_record f n h ≡ false) chain
 all_false [] f n none = tt
 all_false (h ∷ rest) f n none = by (is_record f n h) refl none (all_false rest f n)
   where
-    by : (b : Bool) → is_record f n h ≡ b → (b || holds rest f n) ≡ false → (holds rest f n ≡ false → AllByRecursion (λ (g : Held). is_record f n g ≡ false) rest) → AllByRecursion (λ (g : Held). is_record f n g ≡ false) (h ∷ rest)
+    by : (b : Bool) → is_record f n h ≡ b → (b || holds rest f n) ≡ false
+        → (holds rest f n ≡ false → AllByRecursion (λ (g : Held). is_record f n g ≡ false) rest)
+        → AllByRecursion (λ (g : Held). is_record f n g ≡ false) (h ∷ rest)
     by true at none more = absurd (cc)
     by false at none more = (at, more none)
 
@@ -102,7 +123,9 @@ module _ (x y : Exchange) (kept_x : IsExchange x) (kept_y : IsExchange y) (fits 
   once_carried [] all once = tt
   once_carried (h ∷ rest) all once = (by (cases_Bool (holds (carried_chain x y rest) (new_file x y h.file) h.number)), once_carried rest all.1 once.1)
     where
-      by : (holds (carried_chain x y rest) (new_file x y h.file) h.number ≡ true) ⊎ (holds (carried_chain x y rest) (new_file x y h.file) h.number ≡ false) → holds (carried_chain x y rest) (new_file x y h.file) h.number ≡ false
+      by : (holds (carried_chain x y rest) (new_file x y h.file) h.number ≡ true)
+          ⊎ (holds (carried_chain x y rest) (new_file x y h.file) h.number ≡ false)
+          → holds (carried_chain x y rest) (new_file x y h.file) h.number ≡ false
       by (inr none) = none
       by (inl there) =
           let c = held_back x y rest (new_file x y h.file) h.number all.1 there in
@@ -135,7 +158,13 @@ module _ (x y : Exchange) (kept_x : IsExchange x) (kept_y : IsExchange y) (fits 
 
     chains_fit : ChainsFit y t
     chains_fit = record {
-      few = λ n. let few = valid.chains.few n in omega (arith, few, ap length (chain_at-carried x y s.chains n), length-map (chain_at s.chains n) (carried_held x y));
+      few = λ n. let few = valid.chains.few n in omega (
+        arith,
+        few,
+        ap length (chain_at-carried x y s.chains n),
+        length-map (chain_at s.chains n)
+            (carried_held x y),
+      );
       records = new_records;
       once = λ n. subst IsOnce (sym (chain_at-carried x y s.chains n)) (once_carried (chain_at s.chains n) (valid.chains.records n) (valid.chains.once n));
       apart = λ n m h one other.
@@ -156,17 +185,25 @@ module _ (x y : Exchange) (kept_x : IsExchange x) (kept_y : IsExchange y) (fits 
         variables = λ b v k e at own.
             let there = variable_is_cell y.blocks b v k at (slice_get_within k.variables v e own) in
             let here : cell_variable y.blocks (VariableCell b v) ≡ Some e = ap (option_and_then (λ (l : Block). slice_get l.variables v)) at ∙ own in
-            let is = are.each (VariableCell b v) there ∙ ap (λ o. option_map_or (λ (d : Variable). kept_value d (old_value x y s.store (VariableCell b v))) o 0) here in
+            let is = are.each (VariableCell b v) there
+            ∙ ap (λ o. option_map_or (λ (d : Variable). kept_value d (old_value x y s.store (VariableCell b v))) o
+            0) here in
             subst (λ n. n < 2 ^ e.width) (sym is) (kept_small e (old_value x y s.store (VariableCell b v)) (variable_kept y kept_y b v k e at own).init);
         fields = λ f n i p e rec own.
             let there = field_is_cell y.blocks f n i p rec.there rec.within (slice_get_within p.file.fields i e own) in
             let here : cell_variable y.blocks (Field f n i) ≡ Some e = ap (option_and_then (λ (q : Placed). slice_get q.file.fields i)) rec.there ∙ own in
-            let is = ap (slice_index words) (sym (cell_number-field y.blocks f n i p rec.there)) ∙ are.each (Field f n i) there ∙ ap (λ o. option_map_or (λ (d : Variable). kept_value d (old_value x y s.store (Field f n i))) o 0) here in
+            let is = ap (slice_index words) (sym (cell_number-field y.blocks f n i p rec.there))
+            ∙ are.each (Field f n i) there
+            ∙ ap (λ o. option_map_or (λ (d : Variable). kept_value d (old_value x y s.store (Field f n i))) o 0)
+            here in
             subst (λ n. n < 2 ^ e.width) (sym is) (kept_small e (old_value x y s.store (Field f n i)) (field_kept y kept_y f i p e rec.there own).init);
       }
 
-      mark_is : (f n : ℕ) (p : Placed) → slice_get (placed_files y.blocks) f ≡ Some p → n < p.file.size → p.file.forlopp ≡ true → slice_index words (mark_cell p n) ≡ mark_value (holds (all_records (carried_chains x y s.chains)) f n)
-      mark_is f n p at within kind = ap (slice_index words) (sym (cell_number-mark y.blocks f n p at)) ∙ are.each (Mark f n) (mark_is_cell y.blocks f n p at within kind)
+      mark_is : (f n : ℕ) (p : Placed) → slice_get (placed_files y.blocks) f ≡ Some p → n < p.file.size
+          → p.file.forlopp ≡ true → slice_index words (mark_cell p n)
+          ≡ mark_value (holds (all_records (carried_chains x y s.chains)) f n)
+      mark_is f n p at within kind = ap (slice_index words) (sym (cell_number-mark y.blocks f n p at))
+          ∙ are.each (Mark f n) (mark_is_cell y.blocks f n p at within kind)
 
       marks_fit : MarksFit y t
       unfolding files_of
@@ -182,7 +219,8 @@ module _ (x y : Exchange) (kept_x : IsExchange x) (kept_y : IsExchange y) (fits 
             mark_is h.file h.number p at small (ap (λ (q : Placed). q.file.forlopp) (sym same) ∙ new.kind)
             ∙ ap mark_value (held_among_all (carried_chains x y s.chains) n h.file h.number holds_it);
         free = λ f n p rec kind none.
-            let all = all_records_fit (λ (h : Held). is_record f n h ≡ false) (carried_chains x y s.chains) (λ m. all_false (chain_at (carried_chains x y s.chains) m) f n (none m)) in
+            let all = all_records_fit (λ (h : Held). is_record f n h ≡ false) (carried_chains x y s.chains)
+            (λ m. all_false (chain_at (carried_chains x y s.chains) m) f n (none m)) in
             mark_is f n p rec.there rec.within kind ∙ ap mark_value (none_held (all_records (carried_chains x y s.chains)) f n all);
       }
 
@@ -207,7 +245,8 @@ module _ (x y : Exchange) (kept_x : IsExchange x) (kept_y : IsExchange y) (fits 
         some = valid.numbers.some;
         dead = λ n is. valid.numbers.dead n is;
         few = let few = valid.numbers.few in omega (arith, few, length-map s.arrived (carried_arrived x y));
-        arrived = all_mapped (λ (a : Arrived). a.forlopp < s.next) (λ (a : Arrived). a.forlopp < s.next) (carried_arrived x y) s.arrived (λ a is. is) valid.numbers.arrived;
+        arrived = all_mapped (λ (a : Arrived). a.forlopp < s.next) (λ (a : Arrived). a.forlopp < s.next)
+            (carried_arrived x y) s.arrived (λ a is. is) valid.numbers.arrived;
       }
 
       origin_fits : (before : List Coming) (o : Origin) → NamesEarlier before o → NamesEarlier (map (carried_line x y) before) o
@@ -234,16 +273,26 @@ module _ (x y : Exchange) (kept_x : IsExchange x) (kept_y : IsExchange y) (fits 
         subst (λ b. LinesFit y b (map (carried_line x y) ls)) (map-append (carried_line x y) before (l ∷ [])) (all_lines (before ++ l ∷ []) ls is.1),
       )
 
-      arrived_lines : (got : List Arrived) → map (carried_line x y) (map (λ (a : Arrived). a.line) got) ≡ map (λ (a : Arrived). a.line) (map (carried_arrived x y) got)
+      arrived_lines : (got : List Arrived) → map (carried_line x y) (map (λ (a : Arrived). a.line) got)
+          ≡ map (λ (a : Arrived). a.line) (map (carried_arrived x y) got)
       arrived_lines [] = refl
       arrived_lines (a ∷ got) = ap (λ ls. carried_line x y a.line ∷ ls) (arrived_lines got)
 
       lines_fit : LinesFit y [] (map (λ (a : Arrived). a.line) t.arrived ++ t.lines)
-      lines_fit = subst (LinesFit y []) (map-append (carried_line x y) (map (λ (a : Arrived). a.line) s.arrived) s.lines ∙ ap (λ ls. ls ++ map (carried_line x y) s.lines) (arrived_lines s.arrived))
+      lines_fit = subst (LinesFit y []) (map-append (carried_line x y) (map (λ (a : Arrived). a.line) s.arrived) s.lines
+          ∙ ap (λ ls. ls ++ map (carried_line x y) s.lines) (arrived_lines s.arrived))
           (all_lines [] (map (λ (a : Arrived). a.line) s.arrived ++ s.lines) valid.lines)
 
       pub state_fits : IsValid y t
-      state_fits = record { store = store_fits; chains = chains_fit; marks = marks_fit; waiting = waiting_fits; numbers = numbers_fit; lines = lines_fit; events = tt }
+      state_fits = record {
+        store = store_fits;
+        chains = chains_fit;
+        marks = marks_fit;
+        waiting = waiting_fits;
+        numbers = numbers_fit;
+        lines = lines_fit;
+        events = tt;
+      }
 
 pub carried_valid : (x y : Exchange) (s t : State) → IsExchange x → IsExchange y → misfit x y ≡ None → IsValid x s → IsCarried x y s t → IsValid y t
 carried_valid x y s t kept_x kept_y fits valid is =

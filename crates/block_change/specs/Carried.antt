@@ -1,9 +1,11 @@
 -- A state of one exchange, carried over to another one that fits.
 --
--- Each variable, and each field of a record, has the value that it had where the old exchange has one of the same names and the value
--- fits its width, and else its INIT value. The mark of a record is 1 where it stands in a chain, and else 0. Jobs, lines and
--- chains name the entries and files of the same names. There are no events, and all else is as it was.
-use Rattle.std.specs.Prelude.{◌≡◌, ℕ, ◌^◌, nat_lt, Bool, List, [], map, Option, Some, None, length, slice_index, unwrap_or, if◌then◌else◌}
+-- Each variable, and each field of a record, has the value that it had where the old exchange has
+-- one of the same names and the value fits its width, and else its INIT value. The mark of a record
+-- is 1 where it stands in a chain, and else 0. Jobs, lines and chains name the entries and files of
+-- the same names. There are no events, and all else is as it was.
+use Rattle.std.specs.Prelude.{◌≡◌, ℕ, ◌^◌, nat_lt, Bool, List, [], map, Option, Some, None, length}
+use Rattle.std.specs.Prelude.{slice_index, unwrap_or, if◌then◌else◌}
 use Rattle.std.specs.Option.{option_map, option_map_or}
 use Rattle.std.specs.FinMap as fin
 use Rattle.exchange_model.specs.declared.block.File.{File}
@@ -58,7 +60,8 @@ carried_chain x y chain = map (carried_held x y) chain
 
 -- the map with these chains for the same numbers
 unfoldable pub carried_chains : (x y : Exchange) → ChainMap → ChainMap
-carried_chains x y m = fin.from_entries (map (λ (e : ℕ × List Held). (e.0, carried_chain x y e.1)) (fin.entries m))
+carried_chains x y m =
+    fin.from_entries (map (λ (e : ℕ × List Held). (e.0, carried_chain x y e.1)) (fin.entries m))
 
 -- stored words
 
@@ -69,7 +72,8 @@ kept_value e (Some w) = (if nat_lt w (2 ^ e.width) then w else e.init)
 
 -- the value of the cell of x that has the names of this cell of y, in this store of x
 abbrev pub old_value : (x y : Exchange) → List ℕ → Cell → Option ℕ
-old_value x y store c = option_map (λ d. slice_index store (cell_number x.blocks d)) (same_cell y.blocks x.blocks c)
+old_value x y store c =
+    option_map (λ d. slice_index store (cell_number x.blocks d)) (same_cell y.blocks x.blocks c)
 
 abbrev pub mark_value : Bool → ℕ
 mark_value held = (if held then 1 else 0)
@@ -77,12 +81,15 @@ mark_value held = (if held then 1 else 0)
 -- the value of a cell of y, where x has this store, and the chains of y have these records
 abbrev pub carried_value : (x y : Exchange) → (store : List ℕ) → (records : List Held) → Cell → ℕ
 carried_value x y store records (Mark f n) = mark_value (holds records f n)
-carried_value x y store records c = option_map_or (λ (e : Variable). kept_value e (old_value x y store c)) (cell_variable y.blocks c) 0
+carried_value x y store records c = option_map_or
+    (λ (e : Variable). kept_value e (old_value x y store c)) (cell_variable y.blocks c) 0
 
 -- the words have the carried value of each cell
-pub record AreCarriedWords (x y : Exchange) (store : List ℕ) (records : List Held) (words : List ℕ) : Type 0 where
+pub record AreCarriedWords (x y : Exchange) (store : List ℕ) (records : List Held)
+    (words : List ℕ) : Type 0 where
   pub whole : length words ≡ y.cells
-  pub each : (c : Cell) → IsCell y.blocks c → slice_index words (cell_number y.blocks c) ≡ carried_value x y store records c
+  pub each : (c : Cell) → IsCell y.blocks c → slice_index words (cell_number y.blocks c)
+      ≡ carried_value x y store records c
 
 -- the state of y with these words
 abbrev pub carried_with : (x y : Exchange) → State → List ℕ → State

@@ -1,6 +1,7 @@
--- Whether another exchange fits: it has each entry of this one, with its level and number of values, and each FORLOPP FILE, with at
--- least its size.
-use Rattle.std.specs.Prelude.{ℕ, nat_eq, nat_le, Bool, false, not, ◌&&◌, List, [], ◌∷◌, Option, Some, None, position, slice_get}
+-- Whether another exchange fits: it has each entry of this one, with its level and number of
+-- values, and each FORLOPP FILE, with at least its size.
+use Rattle.std.specs.Prelude.{ℕ, nat_eq, nat_le, Bool, false, not, ◌&&◌, List, [], ◌∷◌, Option}
+use Rattle.std.specs.Prelude.{Some, None, position, slice_get}
 use Rattle.std.specs.List.{find}
 use Rattle.std.specs.Option.{option_and_then, option_map_or, option_or}
 use Rattle.plex_num.specs.declared.level.Level.{Level}
@@ -13,7 +14,8 @@ use Rattle.exchange_model.specs.declared.signal.SignalKind.{SignalKind}
 use Rattle.exchange_model.specs.Kept.{signal_count}
 use Rattle.exchange_model.specs.Names.{signal_level}
 use Rattle.block_change.specs.declared.misfit.Misfit.{Misfit}
-use Rattle.block_change.specs.declared.misfit.Misfit.TheVariants.{Entry as EntryMisfit, File as FileMisfit}
+use Rattle.block_change.specs.declared.misfit.Misfit.TheVariants.{Entry as EntryMisfit}
+use Rattle.block_change.specs.declared.misfit.Misfit.TheVariants.{File as FileMisfit}
 use Rattle.block_change.specs.Same.{file_named, same_entry}
 
 -- levels by number
@@ -25,15 +27,18 @@ rank D = 3
 
 -- two signals have one level and one number of values
 abbrev pub agree : Option SignalKind → Option SignalKind → Bool
-agree k l = nat_eq (rank (signal_level k)) (rank (signal_level l)) && nat_eq (option_map_or signal_count k 0) (option_map_or signal_count l 0)
+agree k l = nat_eq (rank (signal_level k)) (rank (signal_level l))
+    && nat_eq (option_map_or signal_count k 0) (option_map_or signal_count l 0)
 
 -- the signal of the entry of this number
 abbrev pub entry_signal : Exchange → ℕ → Option SignalKind
-entry_signal y e = option_and_then (λ (r : Entry). slice_get y.signals r.signal) (slice_get y.entries e)
+entry_signal y e = option_and_then (λ (r : Entry). slice_get y.signals r.signal)
+    (slice_get y.entries e)
 
 -- y has the entry of the same names, with one level and one number of values
 abbrev pub has_entry : (x y : Exchange) → Entry → Bool
-has_entry x y r = option_map_or (λ e. agree (slice_get x.signals r.signal) (entry_signal y e)) (same_entry x y r) false
+has_entry x y r = option_map_or (λ e. agree (slice_get x.signals r.signal) (entry_signal y e))
+    (same_entry x y r) false
 
 -- this is a FORLOPP FILE of at least the other's size
 abbrev pub takes : Option File → File → Bool
@@ -61,4 +66,5 @@ first_misfit None None = None
 
 -- the first thing of x for which y has none; nothing exactly where y fits
 abbrev pub misfit : (x y : Exchange) → Option Misfit
-misfit x y = first_misfit (position (λ r. not (has_entry x y r)) x.entries) (first_lacking y x.blocks)
+misfit x y = first_misfit (position (λ r. not (has_entry x y r)) x.entries)
+    (first_lacking y x.blocks)

@@ -23,7 +23,11 @@ field_names files = map (λ (f : File). variable_names f.fields) files
 
 -- the names of the variables and files of a block, and of the fields of each file
 abbrev pub names_of : Block → BlockNames
-names_of k = record { variables = variable_names k.variables; files = file_names k.files; fields = field_names k.files }
+names_of k = record {
+  variables = variable_names k.variables;
+  files = file_names k.files;
+  fields = field_names k.files;
+}
 
 -- no two variables, no two files, and no two fields of a file have one name
 pub record AreNamedApart (k : Block) : Type 0 where

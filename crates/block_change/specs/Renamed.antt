@@ -11,7 +11,12 @@ abbrev pub job_with : List ℕ → Job → Job
 job_with entries j = record j { entry = slice_index entries j.entry }
 
 abbrev pub waiting_with : List ℕ → Waiting → Waiting
-waiting_with entries w = record { a = map (job_with entries) w.a; b = map (job_with entries) w.b; c = map (job_with entries) w.c; d = map (job_with entries) w.d }
+waiting_with entries w = record {
+  a = map (job_with entries) w.a;
+  b = map (job_with entries) w.b;
+  c = map (job_with entries) w.c;
+  d = map (job_with entries) w.d;
+}
 
 abbrev pub line_with : List ℕ → Line → Line
 line_with entries l = record l { entry = slice_index entries l.entry }

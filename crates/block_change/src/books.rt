@@ -2,7 +2,8 @@
 ghost use Rattle.std.specs.Prelude.{◌≡◌, ◌≤◌, IfOk, OnOk, length, map, slice_index};
 ghost use Rattle.plex_limits.specs.declared.limits.TheConstants.{MOST_HELD};
 ghost use Rattle.std.specs.FinMap as fin;
-ghost use Rattle.block_change.specs.Carried.{carried_chain, carried_chains, carried_held, new_entries, new_file, number_for};
+ghost use Rattle.block_change.specs.Carried.{carried_chain, carried_chains, carried_held};
+ghost use Rattle.block_change.specs.Carried.{new_entries, new_file, number_for};
 ghost use Rattle.block_change.specs.Renamed.{AreAtLevels, job_with, line_with, waiting_with};
 
 use crate::same::{Named, same_entry, same_file};

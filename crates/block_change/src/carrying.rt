@@ -16,10 +16,11 @@ use run_books::{BookParts, EventLog};
 use std::alloc::Global;
 use store_layout::Layout;
 
-/// What the old exchange has between two jobs, its books in parts and its stored words, as the new exchange has it, which must
-/// fit. Each variable and each field of a record keeps its value where the old exchange has one of the same names and the value fits;
-/// else it has its INIT value. Jobs, lines and chains name the entries and files of the same names. There are no events, and all
-/// else stays. Memory is the only reason for an error.
+/// What the old exchange has between two jobs, its books in parts and its stored words, as the new
+/// exchange has it, which must fit. Each variable and each field of a record keeps its value where
+/// the old exchange has one of the same names and the value fits; else it has its INIT value. Jobs,
+/// lines and chains name the entries and files of the same names. There are no events, and all else
+/// stays. Memory is the only reason for an error.
 pub fn carry(
     alloc: Global,
     old: &Exchange,

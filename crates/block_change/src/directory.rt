@@ -4,7 +4,8 @@ ghost use Rattle.std.specs.Str.{bytes_eq};
 ghost use Rattle.std.specs.List.{AllByRecursion, IsDistinct};
 ghost use Rattle.exchange_model.specs.Kept.{variable_names};
 ghost use Rattle.exchange_model.specs.declared.block.File.{File as FileType};
-ghost use Rattle.block_change.specs.Names.{AreNamedApart, IsDirectory, field_names, file_names, names_of};
+ghost use Rattle.block_change.specs.Names.{AreNamedApart, IsDirectory, field_names, file_names};
+ghost use Rattle.block_change.specs.Names.{names_of};
 ghost use Rattle.exchange_model.specs.Names.{names_of_blocks, names_of_signals};
 
 use crate::names::Names;
@@ -12,7 +13,8 @@ use exchange_model::{Block, Exchange, File, SignalKind, Variable};
 use plex_num::{Memory, Seq};
 use std::alloc::Global;
 
-/// The names of the variables and of the files of a block, and of the fields of each file, in the order of the text.
+/// The names of the variables and of the files of a block, and of the fields of each file, in the
+/// order of the text.
 #[derive(Drop)]
 pub(crate) struct BlockNames {
     pub(crate) variables: Names,
@@ -20,7 +22,8 @@ pub(crate) struct BlockNames {
     pub(crate) fields: Seq<Names>,
 }
 
-/// The names of an exchange's signals and blocks, in the order of their numbers, and what stands in each block.
+/// The names of an exchange's signals and blocks, in the order of their numbers, and what stands in
+/// each block.
 pub(crate) struct Directory {
     pub(crate) signals: Names,
     pub(crate) blocks: Names,

@@ -4,21 +4,24 @@ ghost use Rattle.std.specs.Option.{option_copied};
 ghost use Rattle.exchange_model.specs.Names.{signal_level};
 ghost use Rattle.exchange_model.specs.Kept.{signal_count};
 ghost use Rattle.std.specs.Option.{option_map_or};
-ghost use Rattle.block_change.specs.Misfits.{agree, entry_signal, first_lacking, has_entry, lacking, lacks, misfit, rank, takes};
+ghost use Rattle.block_change.specs.Misfits.{agree, entry_signal, first_lacking, has_entry};
+ghost use Rattle.block_change.specs.Misfits.{lacking, lacks, misfit, rank, takes};
 
 use crate::same::{FileInside, Named, file_at, same_entry};
 use exchange_model::{Block, Entry, Exchange, File, SignalKind};
 use plex_num::{Level, Name};
 
-/// What an exchange has and the one that is to take its place has not: an entry of the same signal and block names, level and
-/// number of values, or a FORLOPP FILE of the same names and at least its size. Both by their numbers in the first exchange.
+/// What an exchange has and the one that is to take its place has not: an entry of the same signal
+/// and block names, level and number of values, or a FORLOPP FILE of the same names and at least
+/// its size. Both by their numbers in the first exchange.
 #[derive(Clone, Copy, PartialEq, Eq)]
 pub enum Misfit {
     Entry { entry: u32 },
     File { file: u32 },
 }
 
-/// The first misfit: that of an entry, or where there is none, that of a file. `None` exactly where the new exchange fits.
+/// The first misfit: that of an entry, or where there is none, that of a file. `None` exactly where
+/// the new exchange fits.
 pub fn misfit_of(old: &Exchange, new: &Named<'_>) -> Option<Misfit>
     ensures { result ≡ misfit old.now new.now.exchange.now }
 {

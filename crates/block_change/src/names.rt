@@ -46,7 +46,8 @@ impl Names {
         }
     }
 
-    /// Adds a name, which must be new. So many names that one has no number of 32 bits are refused as memory is.
+    /// Adds a name, which must be new. So many names that one has no number of 32 bits are refused
+    /// as memory is.
     pub(crate) fn add(&mut self, name: &Name) -> Result<(), Memory>
         requires { list_any (bytes_eq name.now) self.old ≡ false }
         ensures { OnOk result (self.new ≡ self.old ++ name.now ∷ []) }

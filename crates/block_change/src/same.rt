@@ -2,9 +2,12 @@
 ghost use Rattle.std.specs.Prelude.{◌≡◌, IfOk, MatchOption, Some, None, slice_get};
 ghost use Rattle.std.specs.Option.{option_copied};
 ghost use Rattle.exchange_model.specs.Kept.{variable_names};
-ghost use Rattle.exchange_model.specs.declared.entry.Cell.TheVariants.{Variable as VariableCell, Field as FieldCell};
+ghost use Rattle.exchange_model.specs.declared.entry.Cell.TheVariants.{Variable as VariableCell};
+ghost use Rattle.exchange_model.specs.declared.entry.Cell.TheVariants.{Field as FieldCell};
 ghost use Rattle.block_change.specs.Names.{IsDirectory, names_of};
-ghost use Rattle.block_change.specs.Same.{cell_variable, field_at, field_cell_in, file_at, same_block, same_cell, same_entry, same_file, same_signal, variable_at, variable_cell_at};
+ghost use Rattle.block_change.specs.Same.{cell_variable, field_at, field_cell_in, file_at};
+ghost use Rattle.block_change.specs.Same.{same_block, same_cell, same_entry, same_file};
+ghost use Rattle.block_change.specs.Same.{same_signal, variable_at, variable_cell_at};
 
 use crate::directory::{BlockNames, Directory, directory_of};
 use crate::names::Names;

@@ -10,7 +10,10 @@ use Rattle.resolved_block.specs.declared.parts.Typed.{Typed}
 use Rattle.resolved_block.specs.Names.{Naming, meanings_of}
 use Rattle.resolved_block.specs.Blocks.{typed_of, typed_with}
 
-pub among_is : (signals : List SignalKind) (blocks : List Block) (first : First) (b : Block) (events : List Event) (names : Naming Meaning) (t : Typed) → events ≡ block_events b → names ≡ meanings_of first.file events → t ≡ typed_with (record { name = names; signals = signals; blocks = blocks }) first b → t ≡ typed_of signals blocks first b
+pub among_is : (signals : List SignalKind) (blocks : List Block) (first : First) (b : Block) (events : List Event)
+    (names : Naming Meaning) (t : Typed) → events ≡ block_events b → names ≡ meanings_of first.file events
+    → t ≡ typed_with (record { name = names; signals = signals; blocks = blocks }) first b
+    → t ≡ typed_of signals blocks first b
 unfolding typed_of
 among_is signals blocks first b events names t those meant is =
     is ∙ ap (λ m. typed_with (record { name = m; signals = signals; blocks = blocks }) first b) (meant ∙ ap (meanings_of first.file) those)

@@ -1,5 +1,6 @@
 -- Steps of the loop over the blocks of a text.
-use Rattle.std.proofs.Common.{◌≡◌, ℕ, ◌+◌, ◌<◌, ◌≤◌, List, [], ◌∷◌, ◌++◌, length, map, drop, get_or, refl, sym, ◌∙◌, ap, add-one, append_assoc, arith}
+use Rattle.std.proofs.Common.{◌≡◌, ℕ, ◌+◌, ◌<◌, ◌≤◌, List, [], ◌∷◌, ◌++◌, length, map, drop, get_or}
+use Rattle.std.proofs.Common.{refl, sym, ◌∙◌, ap, add-one, append_assoc, arith}
 use Rattle.std.proofs.lemmas.List.{drop_all, append-nil, get_or-map, length-map}
 use Rattle.plex_num.proofs.Lists.{opens}
 use Rattle.exchange_model.specs.declared.block.Block.{Block}
@@ -26,7 +27,8 @@ part_there t parts i those inside =
     let each : length (map block_events t.blocks) ≡ length t.blocks = length-map t.blocks block_events in
     omega (arith, many, each, inside)
 
-pub part_is : (t : Tree) (parts : List (List Event)) (i : ℕ) (b : TreeBlock) (own : List Event) → parts ≡ text_events t → i < length t.blocks → b ≡ get_or t.blocks i b → own ≡ get_or parts (i + 1) own → own ≡ block_events b
+pub part_is : (t : Tree) (parts : List (List Event)) (i : ℕ) (b : TreeBlock) (own : List Event) → parts ≡ text_events t
+    → i < length t.blocks → b ≡ get_or t.blocks i b → own ≡ get_or parts (i + 1) own → own ≡ block_events b
 unfolding text_events
 part_is t parts i b own those inside is there =
     there ∙ ap (λ l. get_or l (i + 1) own) those
@@ -41,7 +43,9 @@ pub record Resolved (kinds : List SignalKind) (bs : List TreeBlock) (i : ℕ) (l
 pub steps_begin : (kinds : List SignalKind) (bs : List TreeBlock) → Resolved kinds bs 0 [] (record { point = 0; file = 0 })
 steps_begin kinds bs = record { same = refl }
 
-pub steps_more : (kinds : List SignalKind) (bs : List TreeBlock) (i : ℕ) (list : List Block) (first : First) (b : TreeBlock) (t : Typed) → i < length bs → b ≡ get_or bs i b → t ≡ typed_of kinds bs first b → Resolved kinds bs i list first → Resolved kinds bs (i + 1) (list ++ t.block ∷ []) t.next
+pub steps_more : (kinds : List SignalKind) (bs : List TreeBlock) (i : ℕ) (list : List Block) (first : First)
+    (b : TreeBlock) (t : Typed) → i < length bs → b ≡ get_or bs i b → t ≡ typed_of kinds bs first b
+    → Resolved kinds bs i list first → Resolved kinds bs (i + 1) (list ++ t.block ∷ []) t.next
 unfolding typed_from
 steps_more kinds bs i list first b t inside is made r = record {
   same = append_assoc list (t.block ∷ []) (typed_from kinds bs t.next (drop (i + 1) bs))
@@ -50,7 +54,8 @@ steps_more kinds bs i list first b t inside is made r = record {
       ∙ r.same;
 }
 
-pub steps_end : (kinds : List SignalKind) (bs : List TreeBlock) (i : ℕ) (list : List Block) (first : First) → length bs ≤ i → Resolved kinds bs i list first → list ≡ typed_from kinds bs none_before bs
+pub steps_end : (kinds : List SignalKind) (bs : List TreeBlock) (i : ℕ) (list : List Block) (first : First)
+    → length bs ≤ i → Resolved kinds bs i list first → list ≡ typed_from kinds bs none_before bs
 unfolding typed_from
 steps_end kinds bs i list first past r = sym (append-nil list) ∙ ap (λ l. list ++ typed_from kinds bs first l) (sym (drop_all i bs past)) ∙ r.same
 

@@ -1,5 +1,6 @@
 -- Steps of the loops over the items of a block.
-use Rattle.std.proofs.Common.{◌≡◌, ℕ, ◌+◌, ◌<◌, ◌≤◌, List, [], ◌++◌, length, drop, get_or, refl, sym, ◌∙◌, ap}
+use Rattle.std.proofs.Common.{◌≡◌, ℕ, ◌+◌, ◌<◌, ◌≤◌, List, [], ◌++◌, length, drop, get_or, refl}
+use Rattle.std.proofs.Common.{sym, ◌∙◌, ap}
 use Rattle.std.proofs.lemmas.List.{drop_all, append-nil}
 use Rattle.plex_num.proofs.Lists.{opens}
 use Rattle.plex_ast.specs.declared.block.Item.{Item}
@@ -20,7 +21,8 @@ pub record ItemsCut (env : Env) (xs : List Item) (i : ℕ) (x : Item) (made : Li
   pub items : made ++ (kind_made env x.line x.kind (items_made env (drop (i + 1) xs)) now).0 ≡ (items_made env xs first).0
   pub next : (kind_made env x.line x.kind (items_made env (drop (i + 1) xs)) now).1 ≡ (items_made env xs first).1
 
-pub items_cut : (env : Env) (xs : List Item) (i : ℕ) (x : Item) (made : List MStmt) (now first : ℕ) → i < length xs → x ≡ get_or xs i x → ItemsLeft env xs i made now first → ItemsCut env xs i x made now first
+pub items_cut : (env : Env) (xs : List Item) (i : ℕ) (x : Item) (made : List MStmt) (now first : ℕ) → i < length xs
+    → x ≡ get_or xs i x → ItemsLeft env xs i made now first → ItemsCut env xs i x made now first
 unfolding items_made
 items_cut env xs i x made now first inside is w =
     let cut = opens xs i x inside is in
@@ -29,11 +31,13 @@ items_cut env xs i x made now first inside is w =
       next = sym (ap (λ l. (items_made env l now).1) cut) ∙ w.next;
     }
 
-pub items_end : (env : Env) (xs : List Item) (i : ℕ) (made : List MStmt) (now first : ℕ) → length xs ≤ i → ItemsLeft env xs i made now first → made ≡ (items_made env xs first).0
+pub items_end : (env : Env) (xs : List Item) (i : ℕ) (made : List MStmt) (now first : ℕ) → length xs ≤ i
+    → ItemsLeft env xs i made now first → made ≡ (items_made env xs first).0
 unfolding items_made
 items_end env xs i made now first past w = sym (append-nil made) ∙ sym (ap (λ l. made ++ (items_made env l now).0) (drop_all i xs past)) ∙ w.items
 
-pub items_next : (env : Env) (xs : List Item) (i : ℕ) (made : List MStmt) (now first : ℕ) → length xs ≤ i → ItemsLeft env xs i made now first → now ≡ (items_made env xs first).1
+pub items_next : (env : Env) (xs : List Item) (i : ℕ) (made : List MStmt) (now first : ℕ) → length xs ≤ i
+    → ItemsLeft env xs i made now first → now ≡ (items_made env xs first).1
 unfolding items_made
 items_next env xs i made now first past w = sym (ap (λ l. (items_made env l now).1) (drop_all i xs past)) ∙ w.next
 
@@ -45,7 +49,8 @@ pub record Placed (xs : List Item) (i place : ℕ) (list : List Label) : Type 0 
 pub places_begin : (xs : List Item) → Placed xs 0 0 []
 places_begin xs = record { same = refl }
 
-pub places_cut : (xs : List Item) (i place : ℕ) (x : Item) (list : List Label) → i < length xs → x ≡ get_or xs i x → Placed xs i place list → list ++ kind_labels x.kind place (labels_from (drop (i + 1) xs)) ≡ labels_from xs 0
+pub places_cut : (xs : List Item) (i place : ℕ) (x : Item) (list : List Label) → i < length xs → x ≡ get_or xs i x
+    → Placed xs i place list → list ++ kind_labels x.kind place (labels_from (drop (i + 1) xs)) ≡ labels_from xs 0
 unfolding labels_from
 places_cut xs i place x list inside is w = sym (ap (λ l. list ++ labels_from l place) (opens xs i x inside is)) ∙ w.same
 

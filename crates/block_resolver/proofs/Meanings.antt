@@ -1,5 +1,6 @@
 -- What names stand for after the first events.
-use Rattle.std.proofs.Common.{◌≡◌, ℕ, ◌+◌, ◌<◌, ◌≤◌, Bool, true, false, cond, List, length, take, get_or, Option, Some, None, refl, sym, ◌∙◌, ap}
+use Rattle.std.proofs.Common.{◌≡◌, ℕ, ◌+◌, ◌<◌, ◌≤◌, Bool, true, false, cond, List, length, take}
+use Rattle.std.proofs.Common.{get_or, Option, Some, None, refl, sym, ◌∙◌, ap}
 use Rattle.std.specs.Prelude.{if◌then◌else◌}
 use Rattle.std.specs.Str.{bytes_eq}
 use Rattle.std.proofs.lemmas.List.{take_all}
@@ -12,7 +13,9 @@ use Rattle.text_events.specs.Named.{meaning_in, meaning_of_note}
 use Rattle.resolved_block.specs.Names.{Naming, counted_on, meanings_of, with_first}
 
 -- what was there, or what one event declares
-pub see_declared : (first : ℕ) (n m : List ℕ) (meaning counted : Meaning) (note : Note) (old new : Option Meaning) → note ≡ Declares m meaning → counted ≡ with_first first meaning → new ≡ cond (bytes_eq m n) (Some counted) old → new ≡ or_else (counted_on first (meaning_of_note n note)) old
+pub see_declared : (first : ℕ) (n m : List ℕ) (meaning counted : Meaning) (note : Note) (old new : Option Meaning)
+    → note ≡ Declares m meaning → counted ≡ with_first first meaning → new ≡ cond (bytes_eq m n) (Some counted) old
+    → new ≡ or_else (counted_on first (meaning_of_note n note)) old
 see_declared first n m meaning counted note old new is one h = rw is (h ∙ ap (λ c. cond (bytes_eq m n) (Some c) old) one ∙ choice (bytes_eq m n))
   where
     choice : (b : Bool) → cond b (Some (with_first first meaning)) old ≡ or_else (counted_on first (if b then Some meaning else None)) old
@@ -29,7 +32,9 @@ pub record Meant (first : ℕ) (events : List Event) (i : ℕ) (now : Naming Mea
 pub declared_begin : (first : ℕ) (events : List Event) (now : Naming Meaning) → ((n : List ℕ) → now n ≡ None) → Meant first events 0 now
 declared_begin first events now none = record { each = none }
 
-pub declared_step : (first : ℕ) (events : List Event) (i : ℕ) (e : Event) (old new : Naming Meaning) → i < length events → e ≡ get_or events i e → ((n : List ℕ) → new n ≡ or_else (counted_on first (meaning_in n e)) (old n)) → Meant first events i old → Meant first events (i + 1) new
+pub declared_step : (first : ℕ) (events : List Event) (i : ℕ) (e : Event) (old new : Naming Meaning) → i < length events
+    → e ≡ get_or events i e → ((n : List ℕ) → new n ≡ or_else (counted_on first (meaning_in n e)) (old n))
+    → Meant first events i old → Meant first events (i + 1) new
 declared_step first events i e old new inside is more m = record {
   each = λ n.
       more n ∙ ap (or_else (counted_on first (meaning_in n e))) (m.each n)
@@ -38,7 +43,8 @@ declared_step first events i e old new inside is more m = record {
       ∙ ap (λ l. counted_on first (last_of (meaning_in n) l)) (sym (more_events events i e inside is));
 }
 
-pub declared_end : (first : ℕ) (events : List Event) (i : ℕ) (now : Naming Meaning) → length events ≤ i → Meant first events i now → now ≡ meanings_of first events
+pub declared_end : (first : ℕ) (events : List Event) (i : ℕ) (now : Naming Meaning) → length events ≤ i
+    → Meant first events i now → now ≡ meanings_of first events
 declared_end first events i now past m = fun_ext λ n. m.each n ∙ ap (λ l. meanings_of first l n) (take_all i events past)
 
 pub ruleset names_declared = (declared_begin, declared_step, declared_end)

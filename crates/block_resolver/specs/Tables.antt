@@ -10,4 +10,8 @@ abbrev pub meanings_in : Declared → Naming Meaning
 meanings_in d n = get bytes_eq d.names n
 
 abbrev pub env_in : Names → Env
-env_in x = record { name = meanings_in x.declared; signals = x.signals.now.kinds.now; blocks = x.blocks.now.blocks.now }
+env_in x = record {
+  name = meanings_in x.declared;
+  signals = x.signals.now.kinds.now;
+  blocks = x.blocks.now.blocks.now;
+}

@@ -2,7 +2,8 @@
 ghost use Rattle.std.specs.Prelude.{◌≡◌, ◌∷◌, IfOk, map};
 ghost use Rattle.block_resolver.specs.Tables.{env_in};
 ghost use Rattle.resolved_block.specs.Meant.{temporary_of};
-ghost use Rattle.resolved_block.specs.Expressions.{typed_cond, typed_conj, typed_expr, typed_rel, typed_relation, typed_temps, typed_values};
+ghost use Rattle.resolved_block.specs.Expressions.{typed_cond, typed_conj, typed_expr, typed_rel};
+ghost use Rattle.resolved_block.specs.Expressions.{typed_relation, typed_temps, typed_values};
 
 use crate::expressions::make_expr;
 use crate::names::Names;

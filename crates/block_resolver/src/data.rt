@@ -1,7 +1,8 @@
 // What a block declares.
 ghost use Rattle.std.specs.Prelude.{◌≡◌, IfOk, OnOk, map, filter_map};
 ghost use Rattle.block_resolver.specs.Added.{AddsFile};
-ghost use Rattle.resolved_block.specs.Blocks.{field_of, files_from, init_of, temporary_in, variable_in, variable_of};
+ghost use Rattle.resolved_block.specs.Blocks.{field_of, files_from, init_of, temporary_in};
+ghost use Rattle.resolved_block.specs.Blocks.{variable_in, variable_of};
 
 use crate::numbers::{byte_of, next};
 use exchange_model::{File, Variable};

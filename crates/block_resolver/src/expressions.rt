@@ -1,7 +1,8 @@
 // Expressions with numbers for names.
 ghost use Rattle.std.specs.Prelude.{◌≡◌, ◌∷◌, IfOk, map};
 ghost use Rattle.block_resolver.specs.Tables.{env_in};
-ghost use Rattle.resolved_block.specs.Expressions.{typed_added, typed_expr, typed_factor, typed_factor_kind, typed_multiplied, typed_term};
+ghost use Rattle.resolved_block.specs.Expressions.{typed_added, typed_expr, typed_factor};
+ghost use Rattle.resolved_block.specs.Expressions.{typed_factor_kind, typed_multiplied, typed_term};
 
 use crate::names::Names;
 use exchange_model::{Expr, Factor, FactorOp, Joined, Term};

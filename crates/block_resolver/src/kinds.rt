@@ -2,7 +2,8 @@
 ghost use Rattle.std.specs.Prelude.{◌≡◌, IfOk};
 ghost use Rattle.exchange_model.specs.declared.stmt.StmtKind.TheVariants as stmt;
 ghost use Rattle.resolved_block.specs.Expressions.{typed_cond, typed_expr, typed_rel};
-ghost use Rattle.resolved_block.specs.Meant.{field_place, file_of, label_of, sent_to, signal_of, temporary_of};
+ghost use Rattle.resolved_block.specs.Meant.{field_place, file_of, label_of, sent_to, signal_of};
+ghost use Rattle.resolved_block.specs.Meant.{temporary_of};
 ghost use Rattle.block_resolver.specs.Tables.{env_in};
 
 use crate::conditions::{make_cond, make_rel};

@@ -6,7 +6,9 @@ ghost use Rattle.text_rules.specs.Links.{is_outside};
 ghost use Rattle.signal_types.specs.Found.{kind_in};
 ghost use Rattle.resolved_block.specs.Names.{meanings_of};
 ghost use Rattle.block_resolver.specs.Tables.{env_in, meanings_in};
-ghost use Rattle.resolved_block.specs.Meant.{temporary_of, file_of, field_file, field_place, label_of, holder_of, value_in, target_in, signal_of, block_of, referred, receiver_of, sent_to};
+ghost use Rattle.resolved_block.specs.Meant.{temporary_of, file_of, field_file, field_place};
+ghost use Rattle.resolved_block.specs.Meant.{label_of, holder_of, value_in, target_in, signal_of};
+ghost use Rattle.resolved_block.specs.Meant.{block_of, referred, receiver_of, sent_to};
 
 use crate::declared::Declared;
 use crate::numbers::byte_of;

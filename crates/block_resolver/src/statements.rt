@@ -1,6 +1,7 @@
 // Statements with numbers for names.
 ghost use Rattle.std.specs.Prelude.{◌≡◌, IfOk, OnOk};
-ghost use Rattle.resolved_block.specs.Statements.{typed_kind, typed_list, typed_stmt, typed_when, typed_whens};
+ghost use Rattle.resolved_block.specs.Statements.{typed_kind, typed_list, typed_stmt, typed_when};
+ghost use Rattle.resolved_block.specs.Statements.{typed_whens};
 ghost use Rattle.block_resolver.specs.Tables.{env_in};
 
 use crate::conditions::{make_cond, make_temps, make_values};

@@ -1,5 +1,6 @@
 -- Each least fact can be told in a certificate.
-use Rattle.std.proofs.Common.{◌≡◌, ◌↔◌, inl, inr, ℕ, ◌<◌, ◌≤◌, max, List, [], ◌∷◌, map, Option, None, Some, slice_get, get_or, Contains, All, refl, sym, subst, arith}
+use Rattle.std.proofs.Common.{◌≡◌, ◌↔◌, inl, inr, ℕ, ◌<◌, ◌≤◌, max, List, [], ◌∷◌, map, Option}
+use Rattle.std.proofs.Common.{None, Some, slice_get, get_or, Contains, All, refl, sym, subst, arith}
 use Rattle.std.specs.Option.{option_map_or}
 use Rattle.std.proofs.lemmas.List.Elements.{Contains-get_or}
 use Rattle.plex_limits.specs.declared.limits.TheConstants.{MOST_VALUES, MOST_TEMPORARIES}
@@ -32,19 +33,23 @@ use Rattle.flow_points.proofs.Few.{count_few, temps_few}
 
 -- values
 
-numbered_given : (P : Facts) → ((f : Fact) → P f → HasNumber f.slot f.value) → (e p : ℕ) (source : Source) (v : Value) → NumberedSource source → SourceGives P e p source v → IsNumbered v
+numbered_given : (P : Facts) → ((f : Fact) → P f → HasNumber f.slot f.value) → (e p : ℕ) (source : Source) (v : Value)
+    → NumberedSource source → SourceGives P e p source v → IsNumbered v
 numbered_given P has e p (Of s) v h g = h v (has _ g)
 numbered_given P has e p (Is w) v h g = subst IsNumbered (sym g) h
 numbered_given P has e p Deeper v h g = subst IsNumbered (sym g.2) (let lt = g.1 in omega (arith, lt))
 numbered_given P has e p Nothing v h g = absurd g
 
-awaited_given : (P : Facts) → ((f : Fact) → P f → HasNumber f.slot f.value) → (e p : ℕ) (source : Source) (v : Value) → Awaited source → SourceGives P e p source v → IsAwaited v
+awaited_given : (P : Facts) → ((f : Fact) → P f → HasNumber f.slot f.value) → (e p : ℕ) (source : Source) (v : Value)
+    → Awaited source → SourceGives P e p source v → IsAwaited v
 awaited_given P has e p (Of s) v h g = h v (has _ g)
 awaited_given P has e p (Is w) v h g = subst IsAwaited (sym g) h
 awaited_given P has e p Deeper v h g = absurd h
 awaited_given P has e p Nothing v h g = absurd g
 
-given_number : (P : Facts) → ((f : Fact) → P f → HasNumber f.slot f.value) → (e p : ℕ) (s : Slot) (source : Source) (v : Value) → SourceFits s source → SourceGives P e p source v → HasNumber s v
+given_number : (P : Facts) → ((f : Fact) → P f → HasNumber f.slot f.value)
+    → (e p : ℕ) (s : Slot) (source : Source) (v : Value) → SourceFits s source → SourceGives P e p source v
+    → HasNumber s v
 given_number P has e p (Temp k) source v h g = numbered_given P has e p source v h g
 given_number P has e p (Given k) source v h g = numbered_given P has e p source v h g
 given_number P has e p (Answered k) source v h g = numbered_given P has e p source v h g
@@ -74,12 +79,14 @@ none_few n = omega arith
 module _ (x : Exchange) (kept : IsExchange x) where
   most_few : (rows : List Row) → most (map (λ (r : Row). value_count x r.signal) rows) ≤ MOST_VALUES
   most_few [] = none_few MOST_VALUES
-  most_few (r ∷ rows) = either_few (value_count x r.signal) (most (map (λ (r : Row). value_count x r.signal) rows)) MOST_VALUES (count_few x kept r.signal) (most_few rows)
+  most_few (r ∷ rows) = either_few (value_count x r.signal) (most (map (λ (r : Row). value_count x r.signal) rows))
+      MOST_VALUES (count_few x kept r.signal) (most_few rows)
 
   given_few : (b : ℕ) → given_count x b ≤ MOST_VALUES
   given_few b = by (slice_get x.blocks b) refl
     where
-      by : (o : Option Block) → slice_get x.blocks b ≡ o → option_map_or (λ (k : Block). most (map (λ (r : Row). value_count x r.signal) k.enters)) o 0 ≤ MOST_VALUES
+      by : (o : Option Block) → slice_get x.blocks b ≡ o
+          → option_map_or (λ (k : Block). most (map (λ (r : Row). value_count x r.signal) k.enters)) o 0 ≤ MOST_VALUES
       by None there = omega arith
       by (Some k) there = most_few k.enters
 
@@ -100,12 +107,17 @@ module _ (x : Exchange) (kept : IsExchange x) where
   numbers_closed f (inl g) = given_number _ (λ h n. n) f.entry f.point f.slot (start_source _ f.slot) f.value (start_fits x kept g.entry.signal f.slot) g.gives
   numbers_closed f (inr (p, g)) =
       let w = g.flow in
-      given_number _ (λ h n. n) f.entry g.at.point f.slot (source_of g.how f.slot) f.value (leads_fit x kept g.at.block g.at.point g.at.next g.at.layer f.point g.how (place_fits x g.at kept g.stands.place) w.leads f.slot) w.gives
+      given_number _ (λ h n. n) f.entry g.at.point f.slot (source_of g.how f.slot) f.value
+      (leads_fit x kept g.at.block g.at.point g.at.next g.at.layer f.point g.how
+      (place_fits x g.at kept g.stands.place) w.leads f.slot) w.gives
 
   least_fits : (f : Fact) → IsLeast x f → FactFits f
   least_fits f least =
       let slot = least_slot x f least in
-      record { slot = slot_few slot.place f.slot slot.slot; value = value_few f.slot f.value (least_in x (λ f. HasNumber f.slot f.value) numbers_closed f least) }
+      record {
+        slot = slot_few slot.place f.slot slot.slot;
+        value = value_few f.slot f.value (least_in x (λ f. HasNumber f.slot f.value) numbers_closed f least);
+      }
 
   pub facts_fit : (facts : List Fact) → ((f : Fact) → Contains facts f ↔ IsLeast x f) → All FactFits facts
   facts_fit facts exact = λ i d lt. least_fits (get_or facts i d) ((exact (get_or facts i d)).0 (Contains-get_or facts i d lt))

@@ -1,10 +1,12 @@
 -- The text of a certificate, whose facts are written for one entry after the other.
-use Rattle.std.proofs.Common.{◌≡◌, ◌↔◌, ℕ, ◌+◌, ◌≤◌, List, [], ◌++◌, length, Contains, refl, sym, ap, ◌∙◌, append_assoc, append-nil}
+use Rattle.std.proofs.Common.{◌≡◌, ◌↔◌, ℕ, ◌+◌, ◌≤◌, List, [], ◌++◌, length, Contains, refl, sym}
+use Rattle.std.proofs.Common.{ap, ◌∙◌, append_assoc, append-nil}
 use Rattle.exchange_model.specs.declared.exchange.Exchange.{Exchange}
 use Rattle.exchange_model.specs.Kept.{IsExchange}
 use Rattle.flow_points.specs.declared.fact.Fact.{Fact}
 use Rattle.flow_points.specs.Facts.{IsLeast}
-use Rattle.access_summary.proofs.Summed.{FactsGo, facts_begin, facts_exact, facts_more, facts_rising}
+use Rattle.access_summary.proofs.Summed.{FactsGo, facts_begin, facts_exact, facts_more}
+use Rattle.access_summary.proofs.Summed.{facts_rising}
 use Rattle.certificate_text.specs.declared.certificate.Certificate.{Certificate}
 use Rattle.certificate_text.specs.declared.certificate.Shape.{Shape}
 use Rattle.certificate_text.specs.Text.{facts_text, head_text, last_text}
@@ -42,7 +44,8 @@ text_more x n text new lines g = record {
       ∙ ap (λ (t : List ℕ). head_text g.shape ++ t) (sym (facts_append g.facts lines.facts));
 }
 
-pub text_end : (x : Exchange) (n count : ℕ) (text new : List ℕ) → IsExchange x → count ≡ length x.entries → count ≤ n → new ≡ text ++ last_text → TextGoes x n text → IsTextOfCertificate x new
+pub text_end : (x : Exchange) (n count : ℕ) (text new : List ℕ) → IsExchange x → count ≡ length x.entries → count ≤ n
+    → new ≡ text ++ last_text → TextGoes x n text → IsTextOfCertificate x new
 text_end x n count text new kept all high ended g =
     let certificate : Certificate = record { shape = g.shape; facts = g.facts } in
     let exact : (f : Fact) → Contains g.facts f ↔ IsLeast x f = facts_exact x n count g.facts all high g.go in

@@ -15,4 +15,5 @@ pub record Counts (Are : List Place → Type 0) (n : ℕ) : Type 0 where
 -- the places of a statement and of those in it
 abbrev pub WithThose : ℕ → ℕ → Option ℕ → Layer → List Place → Type 0
 WithThose b p next l places =
-    (inner : List Place) × Inside b p next l inner × (places ≡ record { block = b; point = p; layer = l; next = next } ∷ inner)
+    (inner : List Place) × Inside b p next l inner
+    × (places ≡ record { block = b; point = p; layer = l; next = next } ∷ inner)

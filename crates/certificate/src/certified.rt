@@ -9,7 +9,8 @@ use exchange_model::Exchange;
 use plex_num::Memory;
 use std::alloc::Global;
 
-/// The certificate of an exchange, which has its least facts. Memory is the only reason for an error.
+/// The certificate of an exchange, which has its least facts. Memory is the only reason for an
+/// error.
 #[tactic(auto, using(crate::proofs::Fitting::facts_fit))]
 pub fn certificate_of(alloc: Global, exchange: &Exchange) -> Result<Certificate, Memory>
     ensures { IfOk result (IsCertificate exchange.now) }

@@ -21,8 +21,8 @@ use text_parts::Text;
 /// How many lines are written at once: so few that the end of a text has room for them.
 const AT_ONCE: usize = 16;
 
-/// The text of the certificate of an exchange, which is written entry by entry and point by point: the facts of one point alone are
-/// listed beside it. Memory is the only reason for an error.
+/// The text of the certificate of an exchange, which is written entry by entry and point by point:
+/// the facts of one point alone are listed beside it. Memory is the only reason for an error.
 pub fn text_of_certificate(alloc: Global, exchange: &Exchange) -> Result<Text, Memory>
     ensures { IfOk result (IsTextOfCertificate exchange.now) }
 {

@@ -1,8 +1,8 @@
 // The certificate of an exchange.
 //
-// What goes in: an exchange. What comes out: its certificate, which has its least facts; the text of that, written point by point; and
-// the shape of the exchange, which all its certificates have. It does not look at the certificates of others, nor know what their
-// facts are used for.
+// What goes in: an exchange. What comes out: its certificate, which has its least facts; the text
+// of that, written point by point; and the shape of the exchange, which all its certificates have.
+// It does not look at the certificates of others, nor know what their facts are used for.
 #![tactic(auto)]
 
 mod certified;

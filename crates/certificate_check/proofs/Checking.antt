@@ -1,5 +1,6 @@
 -- Which way a check goes.
-use Rattle.std.proofs.Common.{◌≡◌, ◌↔◌, Bool, true, false, IsTrue, List, map, Contains, All, Option, Some, None, get_or, refl, sym, ◌∙◌, subst}
+use Rattle.std.proofs.Common.{◌≡◌, ◌↔◌, Bool, true, false, IsTrue, List, map, Contains, All, Option}
+use Rattle.std.proofs.Common.{Some, None, get_or, refl, sym, ◌∙◌, subst}
 use Rattle.std.proofs.lemmas.Bool.{true≢false}
 use Rattle.std.proofs.lemmas.List.Elements.{All-contains, Contains-get_or}
 use Rattle.exchange_model.specs.declared.exchange.Exchange.{Exchange}
@@ -26,7 +27,8 @@ listed_by x places all = record { places = map seen places; all = all }
 
 -- the four ends of a check
 
-pub wrong_shape : (x : Exchange) (c : Certificate) (own : Shape) (b : Bool) → IsShapeOf x own → (IsTrue b ↔ (own ≡ c.shape)) → b ≡ false → AreShapes x c own c.shape
+pub wrong_shape : (x : Exchange) (c : Certificate) (own : Shape) (b : Bool) → IsShapeOf x own
+    → (IsTrue b ↔ (own ≡ c.shape)) → b ≡ false → AreShapes x c own c.shape
 wrong_shape x c own b is tells down = record {
   own = is;
   told = refl;
@@ -48,12 +50,17 @@ module _ (x : Exchange) (facts known : List Fact) (same : (f : Fact) → Contain
     least = λ g given new less. l.least g (gives_more x (Contains facts) (Contains known) (λ h c. (same h).1 c) g given) (λ c. new ((same g).0 c)) less;
   }
 
-pub known_own : (x : Exchange) (facts first known sorted : List Fact) → first ≡ facts → All (IsOfExchange x) first → known ≡ sorted → ((f : Fact) → Contains sorted f ↔ Contains facts f) → All (IsOfExchange x) known
+pub known_own : (x : Exchange) (facts first known sorted : List Fact) → first ≡ facts → All (IsOfExchange x) first
+    → known ≡ sorted → ((f : Fact) → Contains sorted f ↔ Contains facts f) → All (IsOfExchange x) known
 known_own x facts first known sorted first_is own known_is same =
     subst (All (IsOfExchange x)) (sym known_is) (all_own x facts sorted same (subst (All (IsOfExchange x)) first_is own))
 
 -- the way to the end, by what each stage tells
-module _ (x : Exchange) (c : Certificate) (own : Shape) (b : Bool) (first known sorted : List Fact) (found : Option Fact) (shape : IsShapeOf x own) (tells : IsTrue b ↔ (own ≡ c.shape)) (up : b ≡ true) (first_is : first ≡ c.facts) (of_it : All (IsOfExchange x) first) (known_is : known ≡ sorted) (same : (f : Fact) → Contains sorted f ↔ Contains c.facts f) (least : LeastIn (Contains known) (Gives x (Contains known)) found) where
+module _ (x : Exchange) (c : Certificate) (own : Shape) (b : Bool) (first known sorted : List Fact)
+    (found : Option Fact) (shape : IsShapeOf x own) (tells : IsTrue b ↔ (own ≡ c.shape)) (up : b ≡ true)
+    (first_is : first ≡ c.facts) (of_it : All (IsOfExchange x) first) (known_is : known ≡ sorted)
+    (same : (f : Fact) → Contains sorted f ↔ Contains c.facts f)
+    (least : LeastIn (Contains known) (Gives x (Contains known)) found) where
   is_shape : IsShapeOf x c.shape
   is_shape = subst (IsShapeOf x) (tells.0 up) shape
 
@@ -70,10 +77,12 @@ module _ (x : Exchange) (c : Certificate) (own : Shape) (b : Bool) (first known 
     least = stays_least x c.facts known same_known f (subst (LeastIn (Contains known) (Gives x (Contains known))) some least);
   }
 
-  pub accepted : (k : KeptSummaries) (summaries : List Summary) → found ≡ None → AreSummariesBy x (Contains known) summaries → k.summaries ≡ summaries → Accepts x c k
+  pub accepted : (k : KeptSummaries) (summaries : List Summary) → found ≡ None
+      → AreSummariesBy x (Contains known) summaries → k.summaries ≡ summaries → Accepts x c k
   accepted k summaries none by_facts summaries_are =
       let closed : IsClosed x (Contains known) = subst (LeastIn (Contains known) (Gives x (Contains known))) none least in
       record {
         is = record { shape = is_shape; own = own_all; closed = stays_closed x c.facts known same_known closed };
-        by_facts = subst (AreSummariesBy x (Contains c.facts)) (sym summaries_are) (summaries_alike x (Contains known) (Contains c.facts) same_known summaries by_facts);
+        by_facts = subst (AreSummariesBy x (Contains c.facts)) (sym summaries_are)
+            (summaries_alike x (Contains known) (Contains c.facts) same_known summaries by_facts);
       }

@@ -1,7 +1,11 @@
--- Each least fact is one that the exchange has, so that summaries by the least facts are of the exchange.
+-- Each least fact is one that the exchange has, so that summaries by the least facts are of the
+-- exchange.
 --
--- A value that a job starts with comes only from the start: flows carry it on, and give numbers besides.
-use Rattle.std.proofs.Common.{◌≡◌, ◌↔◌, inl, inr, ℕ, zero, suc, ◌+◌, ◌<◌, Bool, true, false, nat_lt, nat_eq, if◌then◌else◌, List, [], ◌∷◌, map, get_or, Contains, All, refl, sym, ◌∙◌, subst}
+-- A value that a job starts with comes only from the start: flows carry it on, and give numbers
+-- besides.
+use Rattle.std.proofs.Common.{◌≡◌, ◌↔◌, inl, inr, ℕ, zero, suc, ◌+◌, ◌<◌, Bool, true, false, nat_lt}
+use Rattle.std.proofs.Common.{nat_eq, if◌then◌else◌, List, [], ◌∷◌, map, get_or, Contains, All}
+use Rattle.std.proofs.Common.{refl, sym, ◌∙◌, subst}
 use Rattle.std.specs.List.{AllByRecursion}
 use Rattle.std.proofs.lemmas.Bool.{ltb-true}
 use Rattle.std.proofs.lemmas.List.Elements.{Contains-get_or}
@@ -23,19 +27,24 @@ use Rattle.flow_points.specs.declared.fact.Slot.TheVariants.{Temp, Given, Answer
 use Rattle.flow_points.specs.declared.fact.Value.{Value}
 use Rattle.flow_points.specs.declared.fact.Value.TheVariants.{Arg, Const, Any}
 use Rattle.flow_points.specs.declared.flow.Passing.{Passing}
-use Rattle.flow_points.specs.declared.flow.Passing.TheVariants.{Kept as Keeps, Sets, Takes, Retrieves, Begins, Passes, Calls, Answers}
+use Rattle.flow_points.specs.declared.flow.Passing.TheVariants.{Kept as Keeps, Sets, Takes}
+use Rattle.flow_points.specs.declared.flow.Passing.TheVariants.{Retrieves, Begins, Passes, Calls}
+use Rattle.flow_points.specs.declared.flow.Passing.TheVariants.{Answers}
 use Rattle.flow_points.specs.declared.flow.Source.{Source}
 use Rattle.flow_points.specs.declared.flow.Source.TheVariants.{Of, Is, Deeper, Nothing}
 use Rattle.flow_points.specs.Facts.{Facts, IsClosed, IsLeast, SourceGives, fact}
 use Rattle.flow_points.specs.Flows.{LeadsTo}
 use Rattle.flow_points.specs.Places.{Place}
-use Rattle.flow_points.specs.Sources.{at_place, expr_source, lone_source, named, source_of, start_source}
+use Rattle.flow_points.specs.Sources.{at_place, expr_source, lone_source, named, source_of}
+use Rattle.flow_points.specs.Sources.{start_source}
 use Rattle.flow_points.proofs.Least.{gives_more, least_closed, least_in}
 use Rattle.flow_table.specs.declared.way.Way.{Way}
 use Rattle.flow_table.specs.Alone.{term_source, joined_source, own_source}
-use Rattle.flow_table.specs.Shapes.{Shape, Stays, Assigns, Finds, TakesGiven, TakesAnswer, Starts, Transfers, Asks, GivesAnswer}
+use Rattle.flow_table.specs.Shapes.{Shape, Stays, Assigns, Finds, TakesGiven, TakesAnswer, Starts}
+use Rattle.flow_table.specs.Shapes.{Transfers, Asks, GivesAnswer}
 use Rattle.flow_table.proofs.Shaping.{led_by}
-use Rattle.flow_table.proofs.Sourcing.{expr_source-out, term_source-out, joined_source-out, factor_as}
+use Rattle.flow_table.proofs.Sourcing.{expr_source-out, term_source-out, joined_source-out}
+use Rattle.flow_table.proofs.Sourcing.{factor_as}
 use Rattle.entry_summary.specs.declared.summary.Summary.{Summary}
 use Rattle.certificate_meaning.specs.Summaries.{AreSummaries}
 use Rattle.checked.specs.Belonging.{IsOfExchange, IsValueOfEntry}
@@ -83,7 +92,8 @@ carrying = record {
   number = λ n. subst Carries (factor_as (factor.Number n) (layer.Number n) (factor.outs-Number n)) (small_number n (nat_lt n SMALL_NUMBERS));
   variable = λ v. subst Carries (factor_as (factor.Variable v) (layer.Variable v) (factor.outs-Variable v)) tt;
   temporary = λ t. subst Carries (factor_as (factor.Temporary t) (layer.Temporary t) (factor.outs-Temporary t)) tt;
-  field = λ file field pointer. subst Carries (factor_as (factor.Field file field pointer) (layer.Field file field pointer) (factor.outs-Field file field pointer)) tt;
+  field = λ file field pointer. subst Carries (factor_as (factor.Field file field pointer)
+      (layer.Field file field pointer) (factor.outs-Field file field pointer)) tt;
   bracket = λ e inside. subst Carries (factor_as (factor.Bracket e) (layer.Bracket e) (factor.outs-Bracket e)) inside;
   reference = λ b. subst Carries (factor_as (factor.Reference b) (layer.Reference b) (factor.outs-Reference b)) tt;
 }
@@ -120,7 +130,8 @@ sets_carry temp source h Awaits = tt
 
 named_carries : (names : List ℕ) (slot : ℕ → Slot) (k t : ℕ) (before : Source) → Carries before → Carries (named names slot k t before)
 named_carries [] slot k t before h = h
-named_carries (name ∷ names) slot k t before h = named_carries names slot (k + 1) t (if nat_eq t name then Of (slot k) else before) (either (nat_eq t name) (Of (slot k)) before tt h)
+named_carries (name ∷ names) slot k t before h = named_carries names slot (k + 1) t
+    (if nat_eq t name then Of (slot k) else before) (either (nat_eq t name) (Of (slot k)) before tt h)
 
 takes_carry : (names : List ℕ) → AllCarry (Takes names)
 takes_carry names (Temp t) = named_carries names (λ k. Given k) 0 t (Of (Temp t)) tt
@@ -184,7 +195,8 @@ shape_carries x l w (Starts values own is) = as_made w.how (Begins (map expr_sou
 shape_carries x l w (Transfers count is) = as_made w.how (Passes count) is (passes_carry count)
 shape_carries x l w (Asks signal name count answer values there own is) =
     as_made w.how (Calls (map expr_source values) answer) is (calls_carry (map expr_source values) answer (exprs_carry values))
-shape_carries x l w (GivesAnswer answer values kind is to) = as_made w.how (Answers (map expr_source values)) is (answers_carry (map expr_source values) (exprs_carry values))
+shape_carries x l w (GivesAnswer answer values kind is to) = as_made w.how (Answers (map expr_source values)) is
+    (answers_carry (map expr_source values) (exprs_carry values))
 
 leads_carry : (x : Exchange) (at : Place) (q : ℕ) (how : Passing) → LeadsTo x at q how → AllCarry how
 leads_carry x at q how g = (let led = led_by x at q how g in as_made how led.way.how led.leads.is (shape_carries x at.layer led.way led.shape))
@@ -197,17 +209,20 @@ module _ (x : Exchange) where
   number_of_entry e (Const c) h = tt
   number_of_entry e Any h = tt
 
-  carried : (P : Facts) → ((f : Fact) → P f → IsValueOfEntry x f.entry f.value) → (e p : ℕ) (source : Source) (v : Value) → Carries source → SourceGives P e p source v → IsValueOfEntry x e v
+  carried : (P : Facts) → ((f : Fact) → P f → IsValueOfEntry x f.entry f.value)
+      → (e p : ℕ) (source : Source) (v : Value) → Carries source → SourceGives P e p source v → IsValueOfEntry x e v
   carried P each e p (Of s) v h g = each (fact e p s v) g
   carried P each e p (Is w) v h g = subst (IsValueOfEntry x e) (sym g) (number_of_entry e w h)
   carried P each e p Deeper v h g = subst (IsValueOfEntry x e) (sym g.2) tt
   carried P each e p Nothing v h g = absurd g
 
-  begun : (e count k : ℕ) (t : Bool) (v : Value) (P : Facts) (p : ℕ) → count ≡ entry_count x e → nat_lt k count ≡ t → SourceGives P e p (if t then Is (Arg k) else Is (Const 0)) v → IsValueOfEntry x e v
+  begun : (e count k : ℕ) (t : Bool) (v : Value) (P : Facts) (p : ℕ) → count ≡ entry_count x e → nat_lt k count ≡ t
+      → SourceGives P e p (if t then Is (Arg k) else Is (Const 0)) v → IsValueOfEntry x e v
   begun e count k true v P p is below g = subst (IsValueOfEntry x e) (sym g) (subst (λ n. k < n) is (ltb-true k count below))
   begun e count k false v P p is below g = subst (IsValueOfEntry x e) (sym g) tt
 
-  started : (e count : ℕ) (s : Slot) (v : Value) (P : Facts) (p : ℕ) → count ≡ entry_count x e → SourceGives P e p (start_source count s) v → IsValueOfEntry x e v
+  started : (e count : ℕ) (s : Slot) (v : Value) (P : Facts) (p : ℕ) → count ≡ entry_count x e
+      → SourceGives P e p (start_source count s) v → IsValueOfEntry x e v
   started e count (Temp t) v P p is g = subst (IsValueOfEntry x e) (sym g) tt
   started e count (Given k) v P p is g = begun e count k (nat_lt k count) v P p is refl g
   started e count (Answered k) v P p is g = absurd g
@@ -218,23 +233,28 @@ module _ (x : Exchange) where
   all_of_exchange f (inl g) = record {
     entry = slice_get_within x.entries f.entry g.entry g.there;
     slot = g.slot;
-    value = started f.entry (value_count x g.entry.signal) f.slot f.value (IsOfExchange x) f.point (count_some x f.entry (value_count x g.entry.signal) g.entry g.there refl) g.gives;
+    value = started f.entry (value_count x g.entry.signal) f.slot f.value (IsOfExchange x) f.point
+        (count_some x f.entry (value_count x g.entry.signal) g.entry g.there refl) g.gives;
   }
   all_of_exchange f (inr (p, g)) =
       let w = g.flow in
       record {
         entry = w.reached.1.entry;
         slot = w.slot;
-        value = carried (IsOfExchange x) (λ h of_it. of_it.value) f.entry g.at.point (source_of g.how f.slot) f.value (leads_carry x g.at f.point g.how w.leads f.slot) w.gives;
+        value = carried (IsOfExchange x) (λ h of_it. of_it.value) f.entry g.at.point (source_of g.how f.slot) f.value
+            (leads_carry x g.at f.point g.how w.leads f.slot) w.gives;
       }
 
   -- the least facts are a list
 
   own_facts : All (IsOfExchange x) (least_facts x).items
-  own_facts = λ i d lt. least_in x (IsOfExchange x) all_of_exchange (get_or (least_facts x).items i d) ((least_facts x).each (get_or (least_facts x).items i d) (Contains-get_or (least_facts x).items i d lt))
+  own_facts = λ i d lt. least_in x (IsOfExchange x) all_of_exchange (get_or (least_facts x).items i d)
+      ((least_facts x).each (get_or (least_facts x).items i d) (Contains-get_or (least_facts x).items i d lt))
 
   least_are_closed : IsClosed x (Contains (least_facts x).items)
-  least_are_closed f given = (least_facts x).all f (least_closed x f (gives_more x (Contains (least_facts x).items) (IsLeast x) (λ g c. (least_facts x).each g c) f given))
+  least_are_closed f given = (least_facts x).all f
+      (least_closed x f (gives_more x (Contains (least_facts x).items) (IsLeast x) (λ g c. (least_facts x).each g c) f
+      given))
 
   pub by_least : (summaries : List Summary) → AreSummaries x summaries → AreSummariesBy x (IsLeast x) summaries
   by_least summaries are = record { each_entry = are.each_entry; is = are.is }
@@ -244,7 +264,8 @@ module _ (x : Exchange) where
     facts = (least_facts x).items;
     own = own_facts;
     closed = least_are_closed;
-    by_facts = summaries_alike x (IsLeast x) (Contains (least_facts x).items) (λ f. ((least_facts x).all f, (least_facts x).each f)) k.summaries (by_least k.summaries are);
+    by_facts = summaries_alike x (IsLeast x) (Contains (least_facts x).items)
+        (λ f. ((least_facts x).all f, (least_facts x).each f)) k.summaries (by_least k.summaries are);
   }
 
 -- what is kept of the exchange's own certificate is of the exchange

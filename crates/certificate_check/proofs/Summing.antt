@@ -1,5 +1,6 @@
 -- The summaries of so many entries.
-use Rattle.std.proofs.Common.{◌≡◌, ◌↔◌, ◌⊎◌, inl, inr, ℕ, ◌+◌, ◌<◌, ◌≤◌, List, [], ◌∷◌, ◌++◌, length, Some, slice_get, sym, ap, ◌∙◌, subst, arith, length-append}
+use Rattle.std.proofs.Common.{◌≡◌, ◌↔◌, ◌⊎◌, inl, inr, ℕ, ◌+◌, ◌<◌, ◌≤◌, List, [], ◌∷◌, ◌++◌}
+use Rattle.std.proofs.Common.{length, Some, slice_get, sym, ap, ◌∙◌, subst, arith, length-append}
 use Rattle.std.proofs.lemmas.Bool.{cases_lt}
 use Rattle.std.proofs.lemmas.Option.{none-some, same_Some, slice_get_within}
 use Rattle.plex_num.proofs.Lists.{slice_get-append_left, slice_get-append_seam}
@@ -42,7 +43,8 @@ module _ (x : Exchange) (P : Facts) (n : ℕ) (one : Summary) (all : List Summar
     is = one_of;
   })
 
-pub summaries_end : (x : Exchange) (P : Facts) (n count : ℕ) (all : List Summary) → count ≡ length x.entries → n ≤ count → count ≤ n → Summed x P n all → AreSummariesBy x P all
+pub summaries_end : (x : Exchange) (P : Facts) (n count : ℕ) (all : List Summary) → count ≡ length x.entries → n ≤ count
+    → count ≤ n → Summed x P n all → AreSummariesBy x P all
 summaries_end x P n count all is low high g = (let h = g.long in record { each_entry = omega (arith, is, low, high, h); is = g.is })
 
 -- those by facts are no more than an exchange may have entries

@@ -24,8 +24,8 @@ use kept_summaries::Summaries;
 use plex_num::Memory;
 use std::alloc::Global;
 
-/// What a certificate says of the entries, where it is one of the exchange; else why it is none. Its facts may stand in any order,
-/// and more than once. A certificate that is refused is given up.
+/// What a certificate says of the entries, where it is one of the exchange; else why it is none.
+/// Its facts may stand in any order, and more than once. A certificate that is refused is given up.
 #[tactic(auto, using(crate::proofs::Checking::listed_by))]
 pub fn check(
     alloc: Global,
@@ -64,7 +64,8 @@ fn is_same(one: Shape, other: Shape) -> bool
     one == other
 }
 
-/// The least fact that one rule gives from these facts and that is not among them; `None` exactly where they are closed.
+/// The least fact that one rule gives from these facts and that is not among them; `None` exactly
+/// where they are closed.
 fn missing_from(
     alloc: Global,
     exchange: &Exchange,

@@ -1,5 +1,7 @@
 -- A text is that of a certificate, or has a first line that is not as stated.
-use Rattle.std.proofs.Common.{◌≡◌, ◌≢◌, ◌⊎◌, inl, inr, ℕ, zero, suc, ◌+◌, ◌≤◌, ◌^◌, true, false, true≢false, List, [], ◌∷◌, ◌++◌, length, refl, sym, subst, arith, le_refl}
+use Rattle.std.proofs.Common.{◌≡◌, ◌≢◌, ◌⊎◌, inl, inr, ℕ, zero, suc, ◌+◌, ◌≤◌, ◌^◌, true, false}
+use Rattle.std.proofs.Common.{true≢false, List, [], ◌∷◌, ◌++◌, length, refl, sym, subst, arith}
+use Rattle.std.proofs.Common.{le_refl}
 use Rattle.std.specs.List.{AllByRecursion}
 use Rattle.std.specs.List.Sorted.{IsStrictlySortedBy}
 use Rattle.std.specs.declared.cmp.Ordering.{Ordering}
@@ -19,10 +21,17 @@ use Rattle.certificate_text.specs.declared.version.Version.{Version}
 use Rattle.certificate_text.specs.declared.version.Version.TheVariants.{One, Two}
 use Rattle.certificate_text.specs.Lines.{HasBadLine, IsTextOf}
 use Rattle.certificate_text.specs.Parts.{IsFactAt, IsShapeAt, IsVersionAt}
-use Rattle.certificate_text.specs.Text.{CanTell, FactFits, FactNumbers, HasTextNumber, IsNumber, ShapeNumbers, SlotFits, ValueFits, fact_line, last_line, shape_line, version_line}
+use Rattle.certificate_text.specs.Text.{CanTell, FactFits, FactNumbers, HasTextNumber, IsNumber}
+use Rattle.certificate_text.specs.Text.{ShapeNumbers, SlotFits, ValueFits, fact_line, last_line}
+use Rattle.certificate_text.specs.Text.{shape_line, version_line}
 use Rattle.certificate_text.proofs.Orders.{Rise}
-use Rattle.certificate_text.proofs.Stated.{Read, certificate, line_shorter, no_first_line, no_second_line, read_begin, read_fall, read_last, read_more, read_past, read_strange, two_lines}
-use Rattle.finite_facts.proofs.Finite.{Decided, Listed, IsMadeBelow, below, both, certain, decided_as, either, listed_as, listed_map, listed_one, listed_or, listed_pair, made, no, same_number, some_case, yes}
+use Rattle.certificate_text.proofs.Stated.{Read, certificate, line_shorter, no_first_line}
+use Rattle.certificate_text.proofs.Stated.{no_second_line, read_begin, read_fall, read_last}
+use Rattle.certificate_text.proofs.Stated.{read_more, read_past, read_strange, two_lines}
+use Rattle.finite_facts.proofs.Finite.{Decided, Listed, IsMadeBelow, below, both, certain}
+use Rattle.finite_facts.proofs.Finite.{decided_as, either, listed_as, listed_map, listed_one}
+use Rattle.finite_facts.proofs.Finite.{listed_or, listed_pair, made, no, same_number, some_case}
+use Rattle.finite_facts.proofs.Finite.{yes}
 use Rattle.finite_facts.proofs.Slots.{AreFirst, as_first, first_slots}
 
 -- what stands behind the front of a text
@@ -67,17 +76,29 @@ shapes : Listed ShapeNumbers
 unfolding shape_of
 shapes =
     listed_as (λ s. (n : Numbers) × AreSix n × (s ≡ shape_of n)) ShapeNumbers to
-    (λ s h. ((((s.signals, s.blocks), s.points), ((s.cells, s.entries), s.references)), (((h.signals, h.blocks), h.points), ((h.cells, h.entries), h.references)), refl))
+    (λ s h. (
+      (((s.signals, s.blocks), s.points), ((s.cells, s.entries), s.references)),
+      (((h.signals, h.blocks), h.points), ((h.cells, h.entries), h.references)),
+      refl,
+    ))
     (listed_map AreSix shape_of (listed_pair AreThree AreThree three three))
   where
     to : (s : Shape) → (n : Numbers) × AreSix n × (s ≡ shape_of n) → ShapeNumbers s
     to s h =
         let are = h.1 in
-        subst ShapeNumbers (sym h.2) (record { signals = are.0.0.0; blocks = are.0.0.1; points = are.0.1; cells = are.1.0.0; entries = are.1.0.1; references = are.1.1 })
+        subst ShapeNumbers (sym h.2) (record {
+          signals = are.0.0.0;
+          blocks = are.0.0.1;
+          points = are.0.1;
+          cells = are.1.0.0;
+          entries = are.1.0.1;
+          references = are.1.1;
+        })
 
 slots : Listed SlotFits
 slots =
-    listed_as (AreFirst MOST_TEMPORARIES MOST_VALUES MOST_VALUES) SlotFits (as_first MOST_TEMPORARIES MOST_VALUES MOST_VALUES SlotFits (λ t h. h) (λ k h. h) (λ k h. h) tt tt) back
+    listed_as (AreFirst MOST_TEMPORARIES MOST_VALUES MOST_VALUES) SlotFits
+    (as_first MOST_TEMPORARIES MOST_VALUES MOST_VALUES SlotFits (λ t h. h) (λ k h. h) (λ k h. h) tt tt) back
     (first_slots MOST_TEMPORARIES MOST_VALUES MOST_VALUES)
   where
     back : (s : Slot) → SlotFits s → AreFirst MOST_TEMPORARIES MOST_VALUES MOST_VALUES s
@@ -106,7 +127,9 @@ value_from Any h = inr (inr refl)
 values : Listed IsSmall
 values =
     listed_as AValue IsSmall value_to value_from
-    (listed_or (IsMadeBelow (λ k. Arg k) MOST_VALUES) (λ v. IsMadeBelow (λ c. Const c) (2 ^ 32) v ⊎ (v ≡ Any)) (made (λ k. Arg k) MOST_VALUES) (listed_or (IsMadeBelow (λ c. Const c) (2 ^ 32)) (λ v. v ≡ Any) (made (λ c. Const c) (2 ^ 32)) (listed_one Any)))
+    (listed_or (IsMadeBelow (λ k. Arg k) MOST_VALUES) (λ v. IsMadeBelow (λ c. Const c) (2 ^ 32) v ⊎ (v ≡ Any))
+    (made (λ k. Arg k) MOST_VALUES) (listed_or (IsMadeBelow (λ c. Const c) (2 ^ 32)) (λ v. v ≡ Any)
+    (made (λ c. Const c) (2 ^ 32)) (listed_one Any)))
 
 abbrev Parts : Type 0
 Parts = (ℕ × ℕ) × (Slot × Value)
@@ -163,7 +186,8 @@ AShape v text = (s : Shape) × ((rest : List ℕ) × IsShapeAt v text s rest)
 a_shape : (v : Version) (text : List ℕ) → Decided (AShape v text)
 a_shape v text =
     decided_as (λ h. (h.0, (h.2.1.0, record { numbers = h.1; tells = h.2.0; so = h.2.1.1 }))) (λ h. (h.0, h.1.1.numbers, (h.1.1.tells, (h.1.0, h.1.1.so))))
-    (some_case ShapeNumbers (λ s. CanTell v s.references × ((rest : List ℕ) × (text ≡ ended (shape_line v s) ++ rest))) shapes (λ s are. both (can_tell v s.references) (begins (ended (shape_line v s)) text)))
+    (some_case ShapeNumbers (λ s. CanTell v s.references × ((rest : List ℕ) × (text ≡ ended (shape_line v s) ++ rest)))
+    shapes (λ s are. both (can_tell v s.references) (begins (ended (shape_line v s)) text)))
 
 abbrev AFact : List ℕ → Type 0
 AFact text = (f : Fact) × ((rest : List ℕ) × IsFactAt text f rest)
@@ -210,12 +234,17 @@ module _ (v : Version) (s : Shape) (text : List ℕ) where
       by (no other) = inr (number + 1, read_strange v s text rest fs number r (λ f after is. none (f, (after, is))) (λ after is. other (after, is)))
 
   -- behind one more
-  at_fact : (rest after : List ℕ) (fs : List Fact) (f : Fact) (number : ℕ) → Goes rest fs number → IsFactAt rest f after → (Goes after (fs ++ f ∷ []) (number + 1) → Outcome text) → Outcome text
+  at_fact : (rest after : List ℕ) (fs : List Fact) (f : Fact) (number : ℕ) → Goes rest fs number → IsFactAt rest f after
+      → (Goes after (fs ++ f ∷ []) (number + 1) → Outcome text) → Outcome text
   at_fact rest after fs f number r is on = by (rise (fs ++ f ∷ []))
     where
       by : Decided (Rise (fs ++ f ∷ [])) → Outcome text
       by (yes up) = on (read_more v s text rest after fs fs (fs ++ f ∷ []) f number true r is refl ((λ t. up), (λ h. refl)) refl refl)
-      by (no falls) = inr (number + 1, read_fall v s text rest after fs fs f number false r is refl ((λ t. absurd (true≢false (sym t))), (λ h. absurd (falls h))) refl)
+      by (no falls) = inr (
+        number + 1,
+        read_fall v s text rest after fs fs f number false r is refl
+            ((λ t. absurd (true≢false (sym t))), (λ h. absurd (falls h))) refl,
+      )
 
   facts_read : (n : ℕ) (rest : List ℕ) (fs : List Fact) (number : ℕ) → length rest ≤ n → Goes rest fs number → Outcome text
   facts_read zero rest fs number few r = by (a_fact rest)
@@ -233,7 +262,8 @@ shape_read : (text rest : List ℕ) (v : Version) → IsVersionAt text v rest �
 shape_read text rest v is = by (a_shape v rest)
   where
     by : Decided (AShape v rest) → Outcome text
-    by (yes h) = facts_read v h.0 text (length h.1.0) h.1.0 [] 2 (le_refl (length h.1.0)) (read_begin v h.0 text h.1.0 [] (two_lines text rest h.1.0 v h.0 is h.1.1) refl)
+    by (yes h) = facts_read v h.0 text (length h.1.0) h.1.0 [] 2 (le_refl (length h.1.0))
+        (read_begin v h.0 text h.1.0 [] (two_lines text rest h.1.0 v h.0 is h.1.1) refl)
     by (no none) = inr (2, no_second_line text rest v is (λ s after at. none (s, (after, at))))
 
 pub text_read : (text : List ℕ) → Outcome text

@@ -1,5 +1,7 @@
 -- The first strange fact, as far as a loop has come.
-use Rattle.std.proofs.Common.{◌≡◌, ℕ, ◌+◌, ◌<◌, ◌≤◌, ◌↔◌, Bool, true, false, IsTrue, ◌&&◌, List, [], ◌∷◌, ◌++◌, All, length, take, drop, get_or, Some, slice_get, sym, ap, subst, ◌∙◌}
+use Rattle.std.proofs.Common.{◌≡◌, ℕ, ◌+◌, ◌<◌, ◌≤◌, ◌↔◌, Bool, true, false, IsTrue, ◌&&◌, List, []}
+use Rattle.std.proofs.Common.{◌∷◌, ◌++◌, All, length, take, drop, get_or, Some, slice_get, sym, ap}
+use Rattle.std.proofs.Common.{subst, ◌∙◌}
 use Rattle.std.specs.Option.{option_map_or}
 use Rattle.std.proofs.lemmas.Bool.{and_from, and_parts, true≢false}
 use Rattle.std.proofs.lemmas.List.{drop_more, get_or_default, take-append-drop, take_all, take_more}
@@ -30,16 +32,20 @@ pub record NoneYet (x : Exchange) (facts : List Fact) (i : ℕ) : Type 0 where
 pub first_begin : (x : Exchange) (facts : List Fact) → NoneYet x facts 0
 first_begin x facts = record { all = All-nil (IsOfExchange x) }
 
-pub first_more : (x : Exchange) (facts : List Fact) (i : ℕ) (f : Fact) (b : Bool) → i < length facts → f ≡ get_or facts i f → (IsTrue b ↔ IsOfExchange x f) → b ≡ true → NoneYet x facts i → NoneYet x facts (i + 1)
+pub first_more : (x : Exchange) (facts : List Fact) (i : ℕ) (f : Fact) (b : Bool) → i < length facts
+    → f ≡ get_or facts i f → (IsTrue b ↔ IsOfExchange x f) → b ≡ true → NoneYet x facts i → NoneYet x facts (i + 1)
 first_more x facts i f b inside is tells up none = record {
-  all = subst (All (IsOfExchange x)) (ap (λ (g : Fact). take i facts ++ g ∷ []) is ∙ sym (take_more facts i f inside)) (All-push (IsOfExchange x) (take i facts) f none.all (tells.0 up));
+  all = subst (All (IsOfExchange x)) (ap (λ (g : Fact). take i facts ++ g ∷ []) is ∙ sym (take_more facts i f inside))
+      (All-push (IsOfExchange x) (take i facts) f none.all (tells.0 up));
 }
 
-pub first_here : (x : Exchange) (facts : List Fact) (i : ℕ) (f : Fact) (b : Bool) → i < length facts → f ≡ get_or facts i f → (IsTrue b ↔ IsOfExchange x f) → b ≡ false → NoneYet x facts i → IsFirstStrange x facts f
+pub first_here : (x : Exchange) (facts : List Fact) (i : ℕ) (f : Fact) (b : Bool) → i < length facts
+    → f ≡ get_or facts i f → (IsTrue b ↔ IsOfExchange x f) → b ≡ false → NoneYet x facts i → IsFirstStrange x facts f
 first_here x facts i f b inside is tells down none = record {
   before = take i facts;
   after = drop (i + 1) facts;
-  so = sym (take-append-drop i facts) ∙ ap (λ (l : List Fact). take i facts ++ l) (drop_more facts i f inside ∙ ap (λ (g : Fact). g ∷ drop (i + 1) facts) (sym is));
+  so = sym (take-append-drop i facts) ∙ ap (λ (l : List Fact). take i facts ++ l)
+      (drop_more facts i f inside ∙ ap (λ (g : Fact). g ∷ drop (i + 1) facts) (sym is));
   others = none.all;
   strange = λ of_it. true≢false (sym (tells.1 of_it) ∙ down);
 }
@@ -48,9 +54,12 @@ pub first_end : (x : Exchange) (facts : List Fact) (i : ℕ) → length facts �
 first_end x facts i past none = subst (All (IsOfExchange x)) (take_all i facts past) none.all
 
 -- three tests together
-pub tests_told : (x : Exchange) (f : Fact) (a b c r : Bool) → (IsTrue a ↔ (f.entry < length x.entries)) → (IsTrue b ↔ HasSlot x f.point f.slot) → (IsTrue c ↔ IsValueOfEntry x f.entry f.value) → r ≡ (a && b && c) → IsTrue r ↔ IsOfExchange x f
+pub tests_told : (x : Exchange) (f : Fact) (a b c r : Bool) → (IsTrue a ↔ (f.entry < length x.entries))
+    → (IsTrue b ↔ HasSlot x f.point f.slot) → (IsTrue c ↔ IsValueOfEntry x f.entry f.value) → r ≡ (a && b && c)
+    → IsTrue r ↔ IsOfExchange x f
 tests_told x f a b c r entry slot value is = (
-  (λ e. (let outer = and_parts (a && b) c (sym is ∙ e) in let inner = and_parts a b outer.0 in record { entry = entry.0 inner.0; slot = slot.0 inner.1; value = value.0 outer.1 })),
+  (λ e. (let outer = and_parts (a && b) c (sym is ∙ e) in let inner = and_parts a b outer.0 in record
+      { entry = entry.0 inner.0; slot = slot.0 inner.1; value = value.0 outer.1 })),
   (λ of_it. is ∙ and_from (a && b) c (and_from a b (entry.1 of_it.entry) (slot.1 of_it.slot)) (value.1 of_it.value)),
 )
 

@@ -1,11 +1,14 @@
 -- The least of facts that are not known.
-use Rattle.std.proofs.Common.{◌≡◌, ◌⊎◌, inl, inr, ⊎_elim, ◌↔◌, Bool, true, false, ℕ, zero, suc, ◌+◌, ◌<◌, ◌≤◌, cond, List, [], ◌∷◌, ◌++◌, Contains, length, take, get_or, Option, Some, None, slice_get, refl, sym, ap, subst, ◌∙◌, arith}
+use Rattle.std.proofs.Common.{◌≡◌, ◌⊎◌, inl, inr, ⊎_elim, ◌↔◌, Bool, true, false, ℕ, zero, suc, ◌+◌}
+use Rattle.std.proofs.Common.{◌<◌, ◌≤◌, cond, List, [], ◌∷◌, ◌++◌, Contains, length, take, get_or}
+use Rattle.std.proofs.Common.{Option, Some, None, slice_get, refl, sym, ap, subst, ◌∙◌, arith}
 use Rattle.std.specs.Ordering.{is_lt, ordering_reverse}
 use Rattle.std.specs.declared.cmp.Ordering.{Ordering}
 use Rattle.std.specs.declared.cmp.Ordering.TheVariants.{Less, Equal, Greater}
 use Rattle.std.proofs.lemmas.Bool.{cases_lt, true≢false}
 use Rattle.std.proofs.lemmas.List.{get_or_default, take_all, take_more}
-use Rattle.std.proofs.lemmas.List.Elements.{Contains-append_cases, Contains-append_left, Contains-append_right}
+use Rattle.std.proofs.lemmas.List.Elements.{Contains-append_cases, Contains-append_left}
+use Rattle.std.proofs.lemmas.List.Elements.{Contains-append_right}
 use Rattle.std.proofs.lemmas.Option.{none-some, same_Some, slice_get_past, slice_get_within}
 use Rattle.plex_num.proofs.Members.{none_in}
 use Rattle.exchange_model.specs.declared.exchange.Exchange.{Exchange}
@@ -32,10 +35,13 @@ use Rattle.answer_table.specs.declared.answers.AnswerTable.{AnswerTable}
 use Rattle.answer_table.specs.Answers.{AreAnswers, IsFact, answer_way, awaited_at, is_answer}
 use Rattle.answer_table.proofs.Answering.{awaited_of}
 use Rattle.fact_list.proofs.Ordering.{entry_less, point_less}
-use Rattle.certificate_faults.specs.Missing.{Among, IsBefore, IsLowerMissing, IsLowestOf, LeastIn, Misses, StartsBelow, lower}
+use Rattle.certificate_faults.specs.Missing.{Among, IsBefore, IsLowerMissing, IsLowestOf, LeastIn}
+use Rattle.certificate_faults.specs.Missing.{Misses, StartsBelow, lower}
 use Rattle.certificate_faults.specs.Reached.{CoverReached}
-use Rattle.certificate_faults.specs.Returned.{IsAnsweredAt, IsBack, PointSends, WaySends, given_about}
-use Rattle.certificate_faults.proofs.Joining.{answered_slot, apart, guard, row_below, slot_answered, unguard}
+use Rattle.certificate_faults.specs.Returned.{IsAnsweredAt, IsBack, PointSends, WaySends}
+use Rattle.certificate_faults.specs.Returned.{given_about}
+use Rattle.certificate_faults.proofs.Joining.{answered_slot, apart, guard, row_below, slot_answered}
+use Rattle.certificate_faults.proofs.Joining.{unguard}
 
 -- the order
 
@@ -141,10 +147,15 @@ none_given P G None miss none = record { least = λ f h. told f h }
 none_given P G (Some m) miss none = none_lower P G m miss (λ f g new less. none f g)
 
 -- what was given to an empty list
-pub lowest_of : (P G : Facts) (o r : Option Fact) (old new list : List Fact) → old ≡ [] → HasGiven old new G → list ≡ new → IsLowestOf P (Contains list) o r → IsLowestOf P G o r
+pub lowest_of : (P G : Facts) (o r : Option Fact) (old new list : List Fact) → old ≡ [] → HasGiven old new G
+    → list ≡ new → IsLowestOf P (Contains list) o r → IsLowestOf P G o r
 lowest_of P G o r old new list none has same lowest =
     let added : list ≡ has.added = same ∙ has.is ∙ ap (λ (l : List Fact). l ++ has.added) none in
-    same_lowest P (Contains list) G o r (λ f. (λ c. has.each f (subst (λ l. Contains l f) added c), λ g. subst (λ l. Contains l f) (sym added) (has.listed f g))) lowest
+    same_lowest P (Contains list) G o r (λ f. (
+      λ c. has.each f (subst (λ l. Contains l f) added c),
+      λ g. subst
+          (λ l. Contains l f) (sym added) (has.listed f g),
+    )) lowest
 
 -- what all of a list give, one after the other
 
@@ -154,13 +165,17 @@ pub record Lowers {A : Type 0} (P : Facts) (G : A → Fact → Type 0) (xs : Lis
 pub lowers_begin : {A : Type 0} (P : Facts) (G : A → Fact → Type 0) (xs : List A) (first : Option Fact) → Misses P first → Lowers P G xs first 0 first
 lowers_begin P G xs first miss = record { lowest = none_given P (OneGives G []) first miss (λ f h. none_in h.one h.among) }
 
-pub lowers_misses : {A : Type 0} (P : Facts) (G : A → Fact → Type 0) (xs : List A) (first : Option Fact) (i : ℕ) (o : Option Fact) → Lowers P G xs first i o → Misses P o
+pub lowers_misses : {A : Type 0} (P : Facts) (G : A → Fact → Type 0) (xs : List A) (first : Option Fact) (i : ℕ)
+    (o : Option Fact) → Lowers P G xs first i o → Misses P o
 lowers_misses P G xs first i o low = misses P (Among first (OneGives G (take i xs))) o low.lowest.least
 
-pub lowers_item : {A : Type 0} (P : Facts) (G : A → Fact → Type 0) (xs : List A) (first : Option Fact) (i : ℕ) (x : A) (o r : Option Fact) → i < length xs → x ≡ get_or xs i x → IsLowestOf P (G x) o r → Lowers P G xs first i o → Lowers P G xs first (i + 1) r
+pub lowers_item : {A : Type 0} (P : Facts) (G : A → Fact → Type 0) (xs : List A) (first : Option Fact) (i : ℕ) (x : A)
+    (o r : Option Fact) → i < length xs → x ≡ get_or xs i x → IsLowestOf P (G x) o r → Lowers P G xs first i o
+    → Lowers P G xs first (i + 1) r
 lowers_item P G xs first i x o r inside is here low = record {
   lowest = record {
-    least = alike P (λ f. Among first (OneGives G (take i xs)) f ⊎ G x f) (Among first (OneGives G (take (i + 1) xs))) r up down (joined P (Among first (OneGives G (take i xs))) (G x) o r low.lowest.least here);
+    least = alike P (λ f. Among first (OneGives G (take i xs)) f ⊎ G x f) (Among first (OneGives G (take (i + 1) xs))) r
+        up down (joined P (Among first (OneGives G (take i xs))) (G x) o r low.lowest.least here);
   };
 }
   where
@@ -171,12 +186,16 @@ lowers_item P G xs first i x o r inside is here low = record {
 
     down : (f : Fact) → (first ≡ Some f) ⊎ OneGives G (take (i + 1) xs) f → ((first ≡ Some f) ⊎ OneGives G (take i xs) f) ⊎ G x f
     down f (inl e) = inl (inl e)
-    down f (inr h) = ⊎_elim (λ c. inl (inr (record { one = h.one; among = c; gives = h.gives }))) (λ e. inr (subst (λ y. G y f) e h.gives)) (which xs i x inside is h.one h.among)
+    down f (inr h) = ⊎_elim (λ c. inl (inr (record { one = h.one; among = c; gives = h.gives })))
+        (λ e. inr (subst (λ y. G y f) e h.gives)) (which xs i x inside is h.one h.among)
 
-pub lowers_more : {A : Type 0} (P : Facts) (G : A → Fact → Type 0) (xs : List A) (first : Option Fact) (i : ℕ) (d : A) (o r : Option Fact) → i < length xs → IsLowestOf P (G (get_or xs i d)) o r → Lowers P G xs first i o → Lowers P G xs first (i + 1) r
+pub lowers_more : {A : Type 0} (P : Facts) (G : A → Fact → Type 0) (xs : List A) (first : Option Fact) (i : ℕ) (d : A)
+    (o r : Option Fact) → i < length xs → IsLowestOf P (G (get_or xs i d)) o r → Lowers P G xs first i o
+    → Lowers P G xs first (i + 1) r
 lowers_more P G xs first i d o r inside here low = lowers_item P G xs first i (get_or xs i d) o r inside (get_or_default xs i d (get_or xs i d) inside) here low
 
-pub lowers_end : {A : Type 0} (P : Facts) (G : A → Fact → Type 0) (xs : List A) (first : Option Fact) (i : ℕ) (o : Option Fact) → length xs ≤ i → Lowers P G xs first i o → IsLowestOf P (OneGives G xs) first o
+pub lowers_end : {A : Type 0} (P : Facts) (G : A → Fact → Type 0) (xs : List A) (first : Option Fact) (i : ℕ)
+    (o : Option Fact) → length xs ≤ i → Lowers P G xs first i o → IsLowestOf P (OneGives G xs) first o
 lowers_end P G xs first i o past low = subst (λ l. IsLowestOf P (OneGives G l) first o) (take_all i xs past) low.lowest
 
 -- one fact
@@ -210,7 +229,8 @@ new_one P f (Some m) miss new = at (fact_order f m) refl
     kept above = none_lower P (IsFact f) m miss (λ g e unknown less. above (subst (λ h. fact_order h m ≡ Less) e less))
 
     at : (r : Ordering) → fact_order f m ≡ r → IsLowestOf P (IsFact f) (Some m) (Some (cond (is_lt r) f m))
-    at Less e = first_one P f (Some m) new (λ g same less. not_itself m (total-law.trans m f m (subst (λ h. fact_order h f ≡ Less) (sym (same_Some m g same)) less) e))
+    at Less e = first_one P f (Some m) new (λ g same less. not_itself m
+        (total-law.trans m f m (subst (λ h. fact_order h f ≡ Less) (sym (same_Some m g same)) less) e))
     at Equal e = kept (λ less. unequal (sym e ∙ less))
     at Greater e = kept (λ less. ungreater (sym e ∙ less))
 
@@ -219,9 +239,12 @@ one_lower P f o r miss (inl (here, same)) = subst (IsLowestOf P (IsFact f) o) (s
 one_lower P f o r miss (inr (new, same)) = subst (IsLowestOf P (IsFact f) o) (sym same) (new_one P f o miss new)
 
 -- those of a list
-pub lowest_end : (P : Facts) (given : List Fact) (first : Option Fact) (i : ℕ) (o : Option Fact) → length given ≤ i → Lowers P IsFact given first i o → IsLowestOf P (Contains given) first o
+pub lowest_end : (P : Facts) (given : List Fact) (first : Option Fact) (i : ℕ) (o : Option Fact) → length given ≤ i
+    → Lowers P IsFact given first i o → IsLowestOf P (Contains given) first o
 lowest_end P given first i o past low =
-    same_lowest P (OneGives IsFact given) (Contains given) first o (λ f. (λ h. subst (Contains given) (sym h.gives) h.among, λ c. record { one = f; among = c; gives = refl })) (lowers_end P IsFact given first i o past low)
+    same_lowest P (OneGives IsFact given) (Contains given) first o
+    (λ f. (λ h. subst (Contains given) (sym h.gives) h.among, λ c. record { one = f; among = c; gives = refl }))
+    (lowers_end P IsFact given first i o past low)
 
 -- one flow, one way and all ways
 
@@ -229,36 +252,58 @@ before_all : (m f : Fact) (e q : ℕ) → (m.entry < e) ⊎ ((m.entry ≡ e) × 
 before_all m f e q (inl lt) entry point = entry_less m f (omega (arith, lt, entry))
 before_all m f e q (inr here) entry point = (let lt = here.1 in point_less m f (here.0 ∙ sym entry) (omega (arith, lt, point)))
 
-pub left_out : (P G : Facts) (e q : ℕ) (o : Option Fact) → ((f : Fact) → G f → f.entry ≡ e) → ((f : Fact) → G f → f.point ≡ q) → Misses P o → IsBefore o e q → IsLowestOf P G o o
+pub left_out : (P G : Facts) (e q : ℕ) (o : Option Fact) → ((f : Fact) → G f → f.entry ≡ e)
+    → ((f : Fact) → G f → f.point ≡ q) → Misses P o → IsBefore o e q → IsLowestOf P G o o
 left_out P G e q None entry point miss before = absurd before
 left_out P G e q (Some m) entry point miss before =
     none_lower P G m miss (λ f g new less. not_itself m (total-law.trans m f m (before_all m f e q before (entry f g) (point f g)) less))
 
-sends : (x : Exchange) (P : Facts) (e p : ℕ) (w : Way) (o r : Option Fact) → ((n : ℕ) → IsBack w n → ⊥) → IsLowestOf P (WayGives x P e p w) o r → IsLowestOf P (WaySends x P e p w) o r
-sends x P e p w o r onward lowest = same_lowest P (WayGives x P e p w) (WaySends x P e p w) o r (λ f. (λ g. record { onward = onward; gives = g }, λ s. s.gives)) lowest
+sends : (x : Exchange) (P : Facts) (e p : ℕ) (w : Way) (o r : Option Fact) → ((n : ℕ) → IsBack w n → ⊥)
+    → IsLowestOf P (WayGives x P e p w) o r → IsLowestOf P (WaySends x P e p w) o r
+sends x P e p w o r onward lowest = same_lowest P (WayGives x P e p w) (WaySends x P e p w) o r
+    (λ f. (λ g. record { onward = onward; gives = g }, λ s. s.gives)) lowest
 
-pub way_points : (x : Exchange) (P : Facts) (e p : ℕ) (w : Way) (listed points : List ℕ) (o r : Option Fact) → w.ends ≡ ends.Points listed → points ≡ listed → IsLowestOf P (OneGives (FlowsTo x P e p w.how) points) o r → IsLowestOf P (WaySends x P e p w) o r
+pub way_points : (x : Exchange) (P : Facts) (e p : ℕ) (w : Way) (listed points : List ℕ) (o r : Option Fact)
+    → w.ends ≡ ends.Points listed → points ≡ listed → IsLowestOf P (OneGives (FlowsTo x P e p w.how) points) o r
+    → IsLowestOf P (WaySends x P e p w) o r
 way_points x P e p w listed points o r is same lowest =
-    sends x P e p w o r (λ n back. apart listed n (sym is ∙ back.ends)) (same_lowest P (OneGives (FlowsTo x P e p w.how) points) (WayGives x P e p w) o r (to_points x P e p w listed points is same) lowest)
+    sends x P e p w o r (λ n back. apart listed n (sym is ∙ back.ends))
+    (same_lowest P (OneGives (FlowsTo x P e p w.how) points) (WayGives x P e p w) o r
+    (to_points x P e p w listed points is same) lowest)
 
-pub to_all : (x : Exchange) (t : FlowTable) (P : Facts) (e p : ℕ) (how : Passing) (answer : ℕ) (listed points : List ℕ) (o r : Option Fact) → IsFlowTable x t → slice_get t.retrieves answer ≡ Some listed → points ≡ listed → IsLowestOf P (OneGives (FlowsTo x P e p how) points) o r → IsLowestOf P (WayGives x P e p (answer_way how answer)) o r
+pub to_all : (x : Exchange) (t : FlowTable) (P : Facts) (e p : ℕ) (how : Passing) (answer : ℕ) (listed points : List ℕ)
+    (o r : Option Fact) → IsFlowTable x t → slice_get t.retrieves answer ≡ Some listed → points ≡ listed
+    → IsLowestOf P (OneGives (FlowsTo x P e p how) points) o r
+    → IsLowestOf P (WayGives x P e p (answer_way how answer)) o r
 to_all x t P e p how answer listed points o r table there same lowest =
-    same_lowest P (OneGives (FlowsTo x P e p how) points) (WayGives x P e p (answer_way how answer)) o r (to_retrieves x t P e p (answer_way how answer) answer listed points table refl there same) lowest
+    same_lowest P (OneGives (FlowsTo x P e p how) points) (WayGives x P e p (answer_way how answer)) o r
+    (to_retrieves x t P e p (answer_way how answer) answer listed points table refl there same) lowest
 
-pub to_none : (x : Exchange) (t : FlowTable) (P : Facts) (e p : ℕ) (how : Passing) (answer : ℕ) (o : Option Fact) → IsExchange x → IsFlowTable x t → length t.retrieves ≤ answer → Misses P o → IsLowestOf P (WayGives x P e p (answer_way how answer)) o o
-to_none x t P e p how answer o kept table past miss = none_given P (WayGives x P e p (answer_way how answer)) o miss (no_retrieves x t P e p (answer_way how answer) answer kept table refl past)
+pub to_none : (x : Exchange) (t : FlowTable) (P : Facts) (e p : ℕ) (how : Passing) (answer : ℕ) (o : Option Fact)
+    → IsExchange x → IsFlowTable x t → length t.retrieves ≤ answer → Misses P o
+    → IsLowestOf P (WayGives x P e p (answer_way how answer)) o o
+to_none x t P e p how answer o kept table past miss = none_given P (WayGives x P e p (answer_way how answer)) o miss
+    (no_retrieves x t P e p (answer_way how answer) answer kept table refl past)
 
-pub way_retrieves : (x : Exchange) (P : Facts) (e p : ℕ) (w : Way) (answer : ℕ) (b : Bool) (o r : Option Fact) → w.ends ≡ ends.Retrieves answer → b ≡ is_answer w.how → b ≡ false → IsLowestOf P (WayGives x P e p (answer_way w.how answer)) o r → IsLowestOf P (WaySends x P e p w) o r
+pub way_retrieves : (x : Exchange) (P : Facts) (e p : ℕ) (w : Way) (answer : ℕ) (b : Bool) (o r : Option Fact)
+    → w.ends ≡ ends.Retrieves answer → b ≡ is_answer w.how → b ≡ false
+    → IsLowestOf P (WayGives x P e p (answer_way w.how answer)) o r → IsLowestOf P (WaySends x P e p w) o r
 way_retrieves x P e p w answer b o r is test never lowest =
-    sends x P e p w o r (λ n back. true≢false (sym back.answers ∙ sym test ∙ never)) (same_lowest P (WayGives x P e p (answer_way w.how answer)) (WayGives x P e p w) o r (λ f. (
+    sends x P e p w o r (λ n back. true≢false (sym back.answers ∙ sym test ∙ never))
+    (same_lowest P (WayGives x P e p (answer_way w.how answer)) (WayGives x P e p w) o r (λ f. (
       λ g. record { end = g.end; ends = subst (λ k. IsWayEnd x k g.end) (sym is) g.ends; flows = g.flows },
       λ g. record { end = g.end; ends = subst (λ k. IsWayEnd x k g.end) is g.ends; flows = g.flows },
     )) lowest)
 
-pub way_back : (x : Exchange) (P : Facts) (e p : ℕ) (w : Way) (answer : ℕ) (b : Bool) (o : Option Fact) → w.ends ≡ ends.Retrieves answer → b ≡ is_answer w.how → b ≡ true → Misses P o → IsLowestOf P (WaySends x P e p w) o o
-way_back x P e p w answer b o is test so miss = none_given P (WaySends x P e p w) o miss (λ f s. s.onward answer (record { ends = is; answers = sym test ∙ so }))
+pub way_back : (x : Exchange) (P : Facts) (e p : ℕ) (w : Way) (answer : ℕ) (b : Bool) (o : Option Fact)
+    → w.ends ≡ ends.Retrieves answer → b ≡ is_answer w.how → b ≡ true → Misses P o
+    → IsLowestOf P (WaySends x P e p w) o o
+way_back x P e p w answer b o is test so miss = none_given P (WaySends x P e p w) o miss
+    (λ f s. s.onward answer (record { ends = is; answers = sym test ∙ so }))
 
-pub at_ways : (x : Exchange) (t : FlowTable) (P : Facts) (e p : ℕ) (row : Row) (ways : List Way) (o r : Option Fact) → slice_get t.rows p ≡ Some row → ways ≡ row.ways → Reached P e p → IsLowestOf P (OneGives (WaySends x P e p) ways) o r → IsLowestOf P (PointSends x t P e p) o r
+pub at_ways : (x : Exchange) (t : FlowTable) (P : Facts) (e p : ℕ) (row : Row) (ways : List Way) (o r : Option Fact)
+    → slice_get t.rows p ≡ Some row → ways ≡ row.ways → Reached P e p
+    → IsLowestOf P (OneGives (WaySends x P e p) ways) o r → IsLowestOf P (PointSends x t P e p) o r
 at_ways x t P e p row ways o r there same reached lowest =
     same_lowest P (OneGives (WaySends x P e p) ways) (PointSends x t P e p) o r
     (λ f. (
@@ -272,17 +317,24 @@ no_row x t P e p o past miss = none_given P (PointSends x t P e p) o miss (λ f 
 
 -- what is given about a point
 
-pub not_awaited : (x : Exchange) (t : FlowTable) (a : AnswerTable) (P : Facts) (e q : ℕ) (found : Option ℕ) (least : Option Fact) → AreAnswers x a → found ≡ awaited_at a q → found ≡ None → Misses P least → IsLowestOf P (IsAnsweredAt x t P e q) least least
-not_awaited x t a P e q found least are is none miss = none_given P (IsAnsweredAt x t P e q) least miss (λ f h. none-some h.answer (sym none ∙ is ∙ awaited_of x a are q h.answer h.retrieve))
+pub not_awaited : (x : Exchange) (t : FlowTable) (a : AnswerTable) (P : Facts) (e q : ℕ) (found : Option ℕ)
+    (least : Option Fact) → AreAnswers x a → found ≡ awaited_at a q → found ≡ None → Misses P least
+    → IsLowestOf P (IsAnsweredAt x t P e q) least least
+not_awaited x t a P e q found least are is none miss = none_given P (IsAnsweredAt x t P e q) least miss
+    (λ f h. none-some h.answer (sym none ∙ is ∙ awaited_of x a are q h.answer h.retrieve))
 
-pub nothing_about : (x : Exchange) (t : FlowTable) (P : Facts) (r : Fact) (o : Option Fact) → (Reached P r.entry r.point → ⊥) → Misses P o → IsLowestOf P (given_about x t P r) o o
+pub nothing_about : (x : Exchange) (t : FlowTable) (P : Facts) (r : Fact) (o : Option Fact)
+    → (Reached P r.entry r.point → ⊥) → Misses P o → IsLowestOf P (given_about x t P r) o o
 nothing_about x t P r o apart miss = none_given P (given_about x t P r) o miss (λ f h. ⊎_elim (λ s. apart s.reached) (λ a. apart a.reached) h)
 
 pub misses_then : (P G : Facts) (o r : Option Fact) → IsLowestOf P G o r → Misses P r
 misses_then P G o r lowest = misses P (Among o G) r lowest.least
 
 pub both : (P G H : Facts) (o a r : Option Fact) → IsLowestOf P G o a → IsLowestOf P H a r → IsLowestOf P (λ f. G f ⊎ H f) o r
-both P G H o a r first second = record { least = alike P (λ f. Among o G f ⊎ H f) (Among o (λ f. G f ⊎ H f)) r to from (joined P (Among o G) H a r first.least second) }
+both P G H o a r first second = record {
+  least = alike P (λ f. Among o G f ⊎ H f) (Among o (λ f. G f ⊎ H f)) r to from
+      (joined P (Among o G) H a r first.least second);
+}
   where
     to : (f : Fact) → Among o G f ⊎ H f → (o ≡ Some f) ⊎ (G f ⊎ H f)
     to f (inl (inl e)) = inl e
@@ -318,7 +370,8 @@ starts_down x P n f h = at (cases_lt f.entry n)
 
 pub starts_more : (x : Exchange) (P : Facts) (n : ℕ) (o r : Option Fact) → Starts x P n o → IsLowestOf P (GivenAtStart x P n) o r → Starts x P (n + 1) r
 starts_more x P n o r s lowest = record {
-  least = alike P (λ f. StartsBelow x P n f ⊎ GivenAtStart x P n f) (StartsBelow x P (n + 1)) r (starts_up x P n) (starts_down x P n) (joined P (StartsBelow x P n) (GivenAtStart x P n) o r s.least lowest);
+  least = alike P (λ f. StartsBelow x P n f ⊎ GivenAtStart x P n f) (StartsBelow x P (n + 1)) r (starts_up x P n)
+      (starts_down x P n) (joined P (StartsBelow x P n) (GivenAtStart x P n) o r s.least lowest);
 }
 
 pub starts_end : (x : Exchange) (P : Facts) (n m : ℕ) (o : Option Fact) → n ≡ m → Starts x P n o → LeastIn P (StartsBelow x P m) o
@@ -326,8 +379,10 @@ starts_end x P n m o same s = subst (λ k. LeastIn P (StartsBelow x P k) o) same
 
 -- all that one rule gives
 
-module _ (x : Exchange) (t : FlowTable) (a : AnswerTable) (P : Facts) (points : List Fact) (kept : IsExchange x) (table : IsFlowTable x t) (are : AreAnswers x a) (cover : CoverReached P points) where
-  way_leads : (p : ℕ) (row : Row) (f : Fact) (w : Way) → slice_get t.rows p ≡ Some row → Reached P f.entry p → Contains row.ways w → WayGives x P f.entry p w f → Gives x P f
+module _ (x : Exchange) (t : FlowTable) (a : AnswerTable) (P : Facts) (points : List Fact) (kept : IsExchange x)
+    (table : IsFlowTable x t) (are : AreAnswers x a) (cover : CoverReached P points) where
+  way_leads : (p : ℕ) (row : Row) (f : Fact) (w : Way) → slice_get t.rows p ≡ Some row → Reached P f.entry p
+      → Contains row.ways w → WayGives x P f.entry p w f → Gives x P f
   way_leads p row f w there reached among gives =
       let all = all_ways x t P f.entry p row row.ways kept table (row_below x t p row table there) there refl reached f in
       inr (p, (all.0 (record { one = w; among = among; gives = gives })).gives)
@@ -365,14 +420,22 @@ module _ (x : Exchange) (t : FlowTable) (a : AnswerTable) (P : Facts) (points : 
       record {
         one = here.one;
         among = here.among;
-        gives = subst (λ n. PointSends x t P n here.one.point f ⊎ IsAnsweredAt x t P n here.one.point f) (sym here.entry) (subst (λ n. PointSends x t P f.entry n f ⊎ IsAnsweredAt x t P f.entry n f) (sym here.point) h);
+        gives = subst (λ n. PointSends x t P n here.one.point f ⊎ IsAnsweredAt x t P n here.one.point f)
+            (sym here.entry) (subst (λ n. PointSends x t P f.entry n f ⊎ IsAnsweredAt x t P f.entry n f)
+            (sym here.point) h);
       }
 
-  given_one : (p : ℕ) (f : Fact) (row : Row) (w : Way) → Reached P f.entry p → slice_get t.rows p ≡ Some row → Contains row.ways w → WayGives x P f.entry p w f → OneGives (given_about x t P) points f
+  given_one : (p : ℕ) (f : Fact) (row : Row) (w : Way) → Reached P f.entry p → slice_get t.rows p ≡ Some row
+      → Contains row.ways w → WayGives x P f.entry p w f → OneGives (given_about x t P) points f
   given_one p f row w reached there among gives = by_ends w.ends refl
     where
       onward : ((n : ℕ) → IsBack w n → ⊥) → OneGives (given_about x t P) points f
-      onward none = at_point p f reached (inl (record { reached = reached; row = row; there = there; gives = record { one = w; among = among; gives = record { onward = none; gives = gives } } }))
+      onward none = at_point p f reached (inl (record {
+        reached = reached;
+        row = row;
+        there = there;
+        gives = record { one = w; among = among; gives = record { onward = none; gives = gives } };
+      }))
 
       back : (n : ℕ) → w.ends ≡ ends.Retrieves n → is_answer w.how ≡ true → OneGives (given_about x t P) points f
       back n leads so =
@@ -418,11 +481,15 @@ module _ (x : Exchange) (t : FlowTable) (a : AnswerTable) (P : Facts) (points : 
       let known = h.flow.reached in
       let reached : Reached P f.entry p = (known.0, subst (λ n. P (fact f.entry n Depth known.0)) h.stands.here known.1) in
       let row = table.rows.each p h.at h.stands in
-      let way = (all_ways x t P f.entry p row.row row.row.ways kept table (row_below x t p row.row table row.there) row.there refl reached f).1 (record { entry = refl; gives = h }) in
+      let way = (all_ways x t P f.entry p row.row row.row.ways kept table (row_below x t p row.row table row.there)
+      row.there refl reached f).1 (record { entry = refl; gives = h }) in
       given_one p f row.row way.one reached row.there way.among way.gives
 
-  pub all_given : (first o : Option Fact) → LeastIn P (StartsBelow x P (length x.entries)) first → IsLowestOf P (OneGives (given_about x t P) points) first o → LeastIn P (Gives x P) o
-  all_given first o starts lowest = alike P (λ f. StartsBelow x P (length x.entries) f ⊎ OneGives (given_about x t P) points f) (Gives x P) o to from (joined P (StartsBelow x P (length x.entries)) (OneGives (given_about x t P) points) first o starts lowest)
+  pub all_given : (first o : Option Fact) → LeastIn P (StartsBelow x P (length x.entries)) first
+      → IsLowestOf P (OneGives (given_about x t P) points) first o → LeastIn P (Gives x P) o
+  all_given first o starts lowest = alike P (λ f. StartsBelow x P (length x.entries) f
+      ⊎ OneGives (given_about x t P) points f) (Gives x P) o to from
+      (joined P (StartsBelow x P (length x.entries)) (OneGives (given_about x t P) points) first o starts lowest)
     where
       to : (f : Fact) → StartsBelow x P (length x.entries) f ⊎ OneGives (given_about x t P) points f → Gives x P f
       to f (inl h) = inl h.gives

@@ -1,5 +1,6 @@
 -- Slots by the rows of a table.
-use Rattle.std.proofs.Common.{◌≡◌, ℕ, ◌<◌, ◌≤◌, ◌↔◌, Bool, false, IsTrue, List, [], ◌∷◌, length, Some, slice_get, get_or, refl, sym, ap, arith}
+use Rattle.std.proofs.Common.{◌≡◌, ℕ, ◌<◌, ◌≤◌, ◌↔◌, Bool, false, IsTrue, List, [], ◌∷◌, length}
+use Rattle.std.proofs.Common.{Some, slice_get, get_or, refl, sym, ap, arith}
 use Rattle.std.proofs.lemmas.Bool.{false≢true}
 use Rattle.std.proofs.lemmas.Option.{slice_get_within, slice_get-get_or}
 use Rattle.exchange_model.specs.declared.exchange.Exchange.{Exchange}
@@ -22,7 +23,8 @@ stands_there x p listed inside = at listed.places refl
         let place = get_or listed.places p q in
         (place, listed.all.stands p place (slice_get-get_or listed.places p q (omega (arith, listed.all.each_point, inside))))
 
-pub row_told : (x : Exchange) (t : FlowTable) (p : ℕ) (s : Slot) (r : Row) (b : Bool) → IsFlowTable x t → AreListed x → slice_get t.rows p ≡ Some r → (IsTrue b ↔ RowHas r s) → IsTrue b ↔ HasSlot x p s
+pub row_told : (x : Exchange) (t : FlowTable) (p : ℕ) (s : Slot) (r : Row) (b : Bool) → IsFlowTable x t → AreListed x
+    → slice_get t.rows p ≡ Some r → (IsTrue b ↔ RowHas r s) → IsTrue b ↔ HasSlot x p s
 row_told x t p s r b table listed there tells =
     let inside : p < length x.points = omega (arith, slice_get_within t.rows p r there, table.rows.each_point) in
     let place = stands_there x p listed inside in (
@@ -33,5 +35,11 @@ row_told x t p s r b table listed there tells =
 pub no_row : (x : Exchange) (t : FlowTable) (p : ℕ) (s : Slot) → IsFlowTable x t → AreListed x → length t.rows ≤ p → IsTrue false ↔ HasSlot x p s
 no_row x t p s table listed past = (
   (λ e. absurd (false≢true e)),
-  (λ has. absurd (omega (arith, slice_get_within listed.places p has.place (listed.all.listed p has.place has.stands), listed.all.each_point, table.rows.each_point, past))),
+  (λ has. absurd (omega (
+    arith,
+    slice_get_within listed.places p has.place (listed.all.listed p has.place has.stands),
+    listed.all.each_point,
+    table.rows.each_point,
+    past,
+  ))),
 )

@@ -24,7 +24,8 @@ abbrev pub IsOfPoint : Option Fact → Fact → Type 0
 IsOfPoint None f = ⊥
 IsOfPoint (Some d) f = (d.entry ≡ f.entry) × (d.point ≡ f.point)
 
--- a fact that reaches a point is listed, unless the last one of the list, which is kept beside it, is of the point
+-- a fact that reaches a point is listed, unless the last one of the list, which is kept beside it,
+-- is of the point
 abbrev pub IsListed : Option Fact → Fact → List Fact → List Fact → Option Fact → Type 0
 IsListed last f old new kept =
     ((f.slot ≡ Depth → IsOfPoint last f) × (new ≡ old) × (kept ≡ last))

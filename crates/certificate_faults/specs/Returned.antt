@@ -1,7 +1,8 @@
 -- What RETURNs give.
 --
--- From each RETURN of an answer a way leads to all RETRIEVEs of it. So what they give is joined first: facts that name the answer in the
--- place of a point. Then each RETRIEVE that is reached gets them once.
+-- From each RETURN of an answer a way leads to all RETRIEVEs of it. So what they give is joined
+-- first: facts that name the answer in the place of a point. Then each RETRIEVE that is reached
+-- gets them once.
 use Rattle.std.specs.Prelude.{◌≡◌, ◌⊎◌, ◌↔◌, ℕ, ◌<◌, List, Contains, Some, true, slice_get}
 use Rattle.exchange_model.specs.declared.exchange.Exchange.{Exchange}
 use Rattle.source_meaning.specs.Changes.{value_count}
@@ -42,7 +43,8 @@ pub record WayReturns (x : Exchange) (P : Facts) (e p : ℕ) (w : Way) (f : Fact
   pub gives : SourceGives P e p (source_of w.how f.slot) f.value
 
 -- such a way from the point does, which is reached
-pub record PointReturns (x : Exchange) (t : FlowTable) (P : Facts) (e p : ℕ) (f : Fact) : Type 0 where
+pub record PointReturns (x : Exchange) (t : FlowTable) (P : Facts) (e p : ℕ) (f : Fact) : Type
+    0 where
   pub reached : Reached P e p
   pub row : Row
   pub there : slice_get t.rows p ≡ Some row
@@ -57,7 +59,8 @@ pub record IsReturned (x : Exchange) (t : FlowTable) (P : Facts) (f : Fact) : Ty
   pub gives : PointReturns x t P f.entry from f
 
 -- exactly what is given so
-pub record AreReturned (x : Exchange) (t : FlowTable) (P : Facts) (joined : List Fact) : Type 0 where
+pub record AreReturned (x : Exchange) (t : FlowTable) (P : Facts) (joined : List Fact) : Type
+    0 where
   pub exact : (f : Fact) → Contains joined f ↔ IsReturned x t P f
 
 -- what is joined for one slot of an answer, before a RETRIEVE
@@ -72,7 +75,8 @@ pub record IsHandedOut (x : Exchange) (J : Facts) (e answer q : ℕ) (f : Fact) 
   pub joined : J (fact e answer f.slot f.value)
 
 -- a RETRIEVE that is reached gets the value
-pub record IsAnsweredAt (x : Exchange) (t : FlowTable) (P : Facts) (e q : ℕ) (f : Fact) : Type 0 where
+pub record IsAnsweredAt (x : Exchange) (t : FlowTable) (P : Facts) (e q : ℕ) (f : Fact) : Type
+    0 where
   pub entry : f.entry ≡ e
   pub point : f.point ≡ q
   pub reached : Reached P e q

@@ -9,8 +9,10 @@ ghost use Rattle.flow_table.specs.Small.{IsSmall};
 ghost use Rattle.fact_flows.specs.Flows.{FlowsTo, OneGives, WayGives};
 ghost use Rattle.fact_flows.specs.Given.{GivenAtStart};
 ghost use Rattle.answer_table.specs.Answers.{AreAnswers, answer_way};
-ghost use Rattle.certificate_faults.specs.Missing.{IsBefore, IsLowerMissing, IsLowestOf, LeastIn, Misses, StartsBelow, lower};
-ghost use Rattle.certificate_faults.specs.Returned.{AreReturned, IsAnsweredAt, PointSends, WaySends, given_about};
+ghost use Rattle.certificate_faults.specs.Missing.{IsBefore, IsLowerMissing, IsLowestOf, LeastIn};
+ghost use Rattle.certificate_faults.specs.Missing.{Misses, StartsBelow, lower};
+ghost use Rattle.certificate_faults.specs.Returned.{AreReturned, IsAnsweredAt, PointSends};
+ghost use Rattle.certificate_faults.specs.Returned.{WaySends, given_about};
 ghost use Rattle.checked.specs.Belonging.{IsOfExchange};
 ghost use Rattle.certificate_faults.specs.Strange.{AreListed};
 
@@ -38,8 +40,8 @@ impl ListedFacts for FactList {
     }
 }
 
-/// Where answers are awaited, and what RETURNs give, joined: facts that name the answer in the place
-/// of a point.
+/// Where answers are awaited, and what RETURNs give, joined: facts that name the answer in the
+/// place of a point.
 #[derive(Clone, Copy)]
 struct Returns<'a> {
     answers: &'a AnswerTable,
@@ -54,13 +56,15 @@ struct Outflow<'a> {
     how: &'a Passing,
 }
 
-/// The least fact that one rule gives from these facts and that is not among them; `None` exactly where they are closed. The facts
-/// are those that are known, in an order in which those of one point stand together.
+/// The least fact that one rule gives from these facts and that is not among them; `None` exactly
+/// where they are closed. The facts are those that are known, in an order in which those of one
+/// point stand together.
 ///
-/// What one flow gives is listed at a time. A flow to a point behind that of the least fact so far gives nothing lower, and is left
-/// out. What another one gives is known where it leads to, or the least falls, which it does few times for each point, since the
-/// ends of a way rise. What RETURNs give is joined first, so that each RETRIEVE gets it once. So in all few times as much is listed as
-/// is known, however many flows lead from a point and to it.
+/// What one flow gives is listed at a time. A flow to a point behind that of the least fact so far
+/// gives nothing lower, and is left out. What another one gives is known where it leads to, or the
+/// least falls, which it does few times for each point, since the ends of a way rise. What RETURNs
+/// give is joined first, so that each RETRIEVE gets it once. So in all few times as much is listed
+/// as is known, however many flows lead from a point and to it.
 pub fn least_missing<K: ListedFacts>(
     alloc: Global,
     exchange: &Exchange,
@@ -127,7 +131,8 @@ fn lowest_at_start<K: ListedFacts>(
     Ok(lowest(known, least, given.as_slice()))
 }
 
-/// The least of this one, which is the first, and of what is given from the points of these facts and, by answers, to them.
+/// The least of this one, which is the first, and of what is given from the points of these facts
+/// and, by answers, to them.
 fn lowest_of_points<K: ListedFacts>(
     alloc: Global,
     exchange: &Exchange,
@@ -247,8 +252,8 @@ fn lowest_sent<K: ListedFacts>(
     }
 }
 
-/// The least of this one, which is the first, and of what those of these ways give from a point that is reached that are
-/// none of an answer.
+/// The least of this one, which is the first, and of what those of these ways give from a point
+/// that is reached that are none of an answer.
 fn lowest_of_ways<K: ListedFacts>(
     alloc: Global,
     exchange: &Exchange,
@@ -311,7 +316,8 @@ fn lowest_of_way<K: ListedFacts>(
     }
 }
 
-/// The least of this one and of what flows from a point that is reached to the RETRIEVEs of an answer.
+/// The least of this one and of what flows from a point that is reached to the RETRIEVEs of an
+/// answer.
 fn lowest_at_retrieves<K: ListedFacts>(
     alloc: Global,
     exchange: &Exchange,
@@ -339,7 +345,8 @@ fn lowest_at_retrieves<K: ListedFacts>(
     }
 }
 
-/// The least of this one, which is the first, and of what flows give from a point that is reached to these points.
+/// The least of this one, which is the first, and of what flows give from a point that is reached
+/// to these points.
 fn lowest_of_flows<K: ListedFacts>(
     alloc: Global,
     exchange: &Exchange,
@@ -363,8 +370,8 @@ fn lowest_of_flows<K: ListedFacts>(
     Ok(least)
 }
 
-/// The least of this one and of what flows from a point that is reached to another one, which is listed unless this one comes before
-/// all that could be.
+/// The least of this one and of what flows from a point that is reached to another one, which is
+/// listed unless this one comes before all that could be.
 fn lowest_of_flow<K: ListedFacts>(
     alloc: Global,
     exchange: &Exchange,

@@ -7,8 +7,8 @@ use flow_points::{Fact, Slot};
 use plex_num::{Memory, Seq};
 use std::alloc::Global;
 
-/// Facts that reach their points, and one of them at least for each point that one of these reaches. It is one alone where those of
-/// a point stand together.
+/// Facts that reach their points, and one of them at least for each point that one of these
+/// reaches. It is one alone where those of a point stand together.
 pub(crate) fn reached_by(alloc: Global, facts: &[Fact]) -> Result<Seq<Fact>, Memory>
     ensures { IfOk result (AreReached facts.now) }
 {
@@ -20,7 +20,8 @@ pub(crate) fn reached_by(alloc: Global, facts: &[Fact]) -> Result<Seq<Fact>, Mem
     Ok(reached)
 }
 
-/// Lists a fact that reaches a point, unless the last one of the list is of that point. Which one is the last of it then.
+/// Lists a fact that reaches a point, unless the last one of the list is of that point. Which one
+/// is the last of it then.
 fn list_next(
     last: Option<Fact>,
     fact: Fact,

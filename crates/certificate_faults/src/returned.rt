@@ -7,7 +7,8 @@ ghost use Rattle.flow_table.specs.Rows.{IsFlowTable};
 ghost use Rattle.flow_table.specs.Small.{IsSmall};
 ghost use Rattle.fact_flows.specs.Flows.{OneGives};
 ghost use Rattle.certificate_faults.specs.Reached.{CoverReached};
-ghost use Rattle.certificate_faults.specs.Returned.{AreAnswered, AreReturned, IsHandedOut, PointReturns, WayReturns, handed, returned_at};
+ghost use Rattle.certificate_faults.specs.Returned.{AreAnswered, AreReturned, IsHandedOut};
+ghost use Rattle.certificate_faults.specs.Returned.{PointReturns, WayReturns, handed, returned_at};
 
 use answer_table::gives_answer;
 use exchange_model::Exchange;
@@ -18,8 +19,9 @@ use flow_table::{Ends, FlowTable, KnownFacts, Way, count_of, push_flow, push_giv
 use plex_num::{Memory, Seq};
 use std::alloc::Global;
 
-/// What RETURNs give, from facts that are known, where one of these at least is of each point that is reached. Each fact of it names
-/// the answer, which is a signal by its number, in the place of a point, and stands there once, however many RETURNs give it.
+/// What RETURNs give, from facts that are known, where one of these at least is of each point that
+/// is reached. Each fact of it names the answer, which is a signal by its number, in the place of a
+/// point, and stands there once, however many RETURNs give it.
 pub(crate) fn returned_from<K: KnownFacts>(
     alloc: Global,
     exchange: &Exchange,
@@ -83,7 +85,8 @@ fn push_point<K: KnownFacts>(
     }
 }
 
-/// Appends what those of these ways from the point of a fact give that go back to the RETRIEVEs of an answer.
+/// Appends what those of these ways from the point of a fact give that go back to the RETRIEVEs of
+/// an answer.
 fn push_ways<K: KnownFacts>(
     alloc: Global,
     exchange: &Exchange,
@@ -102,7 +105,8 @@ fn push_ways<K: KnownFacts>(
     Ok(())
 }
 
-/// Appends what a way from the point of a fact gives, if it goes back to the RETRIEVEs of an answer.
+/// Appends what a way from the point of a fact gives, if it goes back to the RETRIEVEs of an
+/// answer.
 fn push_way<K: KnownFacts>(
     alloc: Global,
     exchange: &Exchange,
@@ -143,7 +147,8 @@ fn answered_slots(alloc: Global, exchange: &Exchange, answer: u32) -> Result<Seq
     Ok(slots)
 }
 
-/// Appends what RETURNs give to a RETRIEVE of the answer, which is reached in jobs of the entry: it is joined.
+/// Appends what RETURNs give to a RETRIEVE of the answer, which is reached in jobs of the entry: it
+/// is joined.
 pub(crate) fn push_answered(
     alloc: Global,
     exchange: &Exchange,

@@ -11,8 +11,9 @@ use exchange_model::Exchange;
 use flow_points::{Fact, Slot, Value};
 use flow_table::{FlowTable, Row, count_of};
 
-/// The first of the facts whose entry, point or slot the exchange lacks, or whose value is a datum that jobs of the entry do not
-/// have; `None` exactly where there is none. The look at a fact takes no walk.
+/// The first of the facts whose entry, point or slot the exchange lacks, or whose value is a datum
+/// that jobs of the entry do not have; `None` exactly where there is none. The look at a fact takes
+/// no walk.
 #[tactic(auto, using(crate::proofs::Firsts::first_begin))]
 pub fn first_strange(exchange: &Exchange, table: &FlowTable, facts: &[Fact]) -> Option<Fact>
     requires table { IsFlowTable exchange.now table.now }

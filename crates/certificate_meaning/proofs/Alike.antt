@@ -12,9 +12,14 @@ use Rattle.flow_points.specs.Facts.{Facts, Known, Reached, SourceGives, fact}
 use Rattle.source_meaning.specs.Named.{Layer}
 use Rattle.entry_summary.specs.declared.summary.Access.{Access}
 use Rattle.entry_summary.specs.declared.summary.Summary.{Summary}
-use Rattle.entry_summary.specs.Accesses.{Accesses, IsAccess, reads, reads_holder, writes, reads_field, writes_field, searches, reads_own, writes_own, opens_own, seizes, frees}
+use Rattle.entry_summary.specs.Accesses.{Accesses, IsAccess, reads, reads_holder, writes}
+use Rattle.entry_summary.specs.Accesses.{reads_field, writes_field, searches, reads_own, writes_own}
+use Rattle.entry_summary.specs.Accesses.{opens_own, seizes, frees}
 use Rattle.entry_summary.specs.Faults as faults
-use Rattle.entry_summary.specs.Faults.{FaultsAt, FlowLeads, MayFault, Once, PostsAt, SomeFaults, SourceMayBe, Then, TooManySends, Walk, no_record, no_receiver, too_wide, divides_by_zero, not_own, has_caller, no_caller, other_caller, too_deep}
+use Rattle.entry_summary.specs.Faults.{FaultsAt, FlowLeads, MayFault, Once, PostsAt, SomeFaults}
+use Rattle.entry_summary.specs.Faults.{SourceMayBe, Then, TooManySends, Walk, no_record}
+use Rattle.entry_summary.specs.Faults.{no_receiver, too_wide, divides_by_zero, not_own, has_caller}
+use Rattle.entry_summary.specs.Faults.{no_caller, other_caller, too_deep}
 use Rattle.entry_summary.specs.Summaries.{IsSummary, MaySendTo}
 
 -- what is known of the entry is known here as well
@@ -51,7 +56,13 @@ module _ (x : Exchange) (P Q : Facts) (e : ℕ) (on : OnEntry P Q e) where
   accesses_on b p (frees temp file) = frees temp file
 
   access_on : (a : Access) → IsAccess x P e a → IsAccess x Q e a
-  access_on a i = record { at = i.at; point = i.point; stands = i.stands; reached = reached_on i.point i.reached; access = accesses_on i.at.block i.point i.access }
+  access_on a i = record {
+    at = i.at;
+    point = i.point;
+    stands = i.stands;
+    reached = reached_on i.point i.reached;
+    access = accesses_on i.at.block i.point i.access;
+  }
 
   level_on : (l : Level) → MaySendTo x P e l → MaySendTo x Q e l
   level_on l m = record { at = m.at; point = m.point; stands = m.stands; reached = reached_on m.point m.reached; sends = m.sends }
@@ -66,7 +77,8 @@ module _ (x : Exchange) (P Q : Facts) (e : ℕ) (on : OnEntry P Q e) where
   faults_on b p (has_caller l n end may above) = has_caller l n end (may_be_on p _ n may) above
   faults_on b p (no_caller answer values may) = no_caller answer values (may_be_on p _ 0 may)
   faults_on b p (other_caller answer values n may other) = other_caller answer values n (may_be_on p _ n may) other
-  faults_on b p (too_deep signal to values fresh name count answer is may) = too_deep signal to values fresh name count answer is (may_be_on p _ MOST_CALLERS may)
+  faults_on b p (too_deep signal to values fresh name count answer is may) =
+      too_deep signal to values fresh name count answer is (may_be_on p _ MOST_CALLERS may)
 
   some_on : SomeFaults x P e → SomeFaults x Q e
   some_on s = record { at = s.at; point = s.point; stands = s.stands; reached = reached_on s.point s.reached; faults = faults_on s.at.block s.point s.faults }

@@ -6,7 +6,9 @@ use Rattle.certificate_text.specs.declared.certificate.Certificate.{Certificate}
 use Rattle.checked.specs.Belonging.{IsOfExchange}
 use Rattle.checked.specs.Kept.{IsChecked, KeptSummaries}
 use Rattle.certificate_meaning.specs.declared.fault.CertFault.{CertFault}
-use Rattle.certificate_meaning.specs.declared.fault.CertFault.TheVariants.{WrongExchange, StrangeFact, MissingFact, Memory}
+use Rattle.certificate_meaning.specs.declared.fault.CertFault.TheVariants.{WrongExchange}
+use Rattle.certificate_meaning.specs.declared.fault.CertFault.TheVariants.{StrangeFact, MissingFact}
+use Rattle.certificate_meaning.specs.declared.fault.CertFault.TheVariants.{Memory}
 use Rattle.certificate_meaning.specs.Verdicts.{Accepts, IsClosedCertificate, Refuses}
 
 pub accepted_is_checked : (x : Exchange) (c : Certificate) (k : KeptSummaries) → Accepts x c k → IsChecked x k

@@ -9,10 +9,13 @@ use Rattle.certificate_meaning.specs.Shapes.{IsShapeOf}
 use Rattle.checked.specs.Belonging.{IsOfExchange}
 use Rattle.certificate_meaning.specs.Faults.{IsFirstStrange, IsLeastIn}
 use Rattle.certificate_meaning.specs.declared.fault.CertFault.{CertFault}
-use Rattle.certificate_meaning.specs.declared.fault.CertFault.TheVariants.{WrongExchange, StrangeFact, MissingFact, Memory}
+use Rattle.certificate_meaning.specs.declared.fault.CertFault.TheVariants.{WrongExchange}
+use Rattle.certificate_meaning.specs.declared.fault.CertFault.TheVariants.{StrangeFact, MissingFact}
+use Rattle.certificate_meaning.specs.declared.fault.CertFault.TheVariants.{Memory}
 use Rattle.checked.specs.Kept.{AreSummariesBy, KeptSummaries}
 
--- it is one of the exchange: it has its shape, none of its facts is strange, and all that one rule gives from them is among them
+-- it is one of the exchange: it has its shape, none of its facts is strange, and all that one rule
+-- gives from them is among them
 pub record IsClosedCertificate (x : Exchange) (c : Certificate) : Type 0 where
   pub shape : IsShapeOf x c.shape
   pub own : All (IsOfExchange x) c.facts
@@ -34,7 +37,8 @@ pub record IsStrange (x : Exchange) (c : Certificate) (f : Fact) : Type 0 where
   pub shape : IsShapeOf x c.shape
   pub first : IsFirstStrange x c.facts f
 
--- the shape is that of the exchange, no fact is strange, and this is the least one that one rule gives and that is not there
+-- the shape is that of the exchange, no fact is strange, and this is the least one that one rule
+-- gives and that is not there
 pub record IsMissing (x : Exchange) (c : Certificate) (f : Fact) : Type 0 where
   pub shape : IsShapeOf x c.shape
   pub own : All (IsOfExchange x) c.facts

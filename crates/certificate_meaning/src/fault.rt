@@ -7,10 +7,11 @@ use plex_num::Memory;
 pub enum CertFault {
     /// The exchange has another shape than the certificate tells.
     WrongExchange { exchange: Shape, certificate: Shape },
-    /// The shapes are the same, and this is the first fact that is strange: the exchange lacks its entry, its point or its slot,
-    /// or its value is one that jobs of the entry do not start with.
+    /// The shapes are the same, and this is the first fact that is strange: the exchange lacks its
+    /// entry, its point or its slot, or its value is one that jobs of the entry do not start with.
     StrangeFact { fact: Fact },
-    /// No fact is strange, and this is the least one that follows by one rule from the facts and is not among them.
+    /// No fact is strange, and this is the least one that follows by one rule from the facts and is
+    /// not among them.
     MissingFact { fact: Fact },
     Memory,
 }

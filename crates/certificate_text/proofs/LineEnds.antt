@@ -7,7 +7,9 @@ use Rattle.certificate_text.specs.declared.certificate.Certificate.{Certificate}
 use Rattle.certificate_text.specs.declared.certificate.Shape.{Shape}
 use Rattle.certificate_text.specs.declared.version.Version.{Version}
 use Rattle.certificate_text.specs.declared.version.Version.TheVariants.{One, Two}
-use Rattle.certificate_text.specs.Text.{CertificateFits, FactFits, FactNumbers, IsNumber, ShapeNumbers, certificate_lines, fact_line, last_line, reference_words, shape_line, slot_word, value_word}
+use Rattle.certificate_text.specs.Text.{CertificateFits, FactFits, FactNumbers, IsNumber}
+use Rattle.certificate_text.specs.Text.{ShapeNumbers, certificate_lines, fact_line, last_line}
+use Rattle.certificate_text.specs.Text.{reference_words, shape_line, slot_word, value_word}
 use Rattle.certificate_text.proofs.Facts.{Good, HasNo-slot, HasNo-value, all_good}
 use Rattle.certificate_text.proofs.Heads.{HasNo-version}
 use Rattle.text_lines.proofs.Cuts.{HasNo-append}
@@ -36,7 +38,18 @@ pub record WordsHaveNone : Type 0 where
 
 words : WordsHaveNone
 unfolding HasNo
-words = record { fact = refl; space = refl; signals = refl; blocks = refl; points = refl; cells = refl; entries = refl; references = refl; last = refl; nothing = refl }
+words = record {
+  fact = refl;
+  space = refl;
+  signals = refl;
+  blocks = refl;
+  points = refl;
+  cells = refl;
+  entries = refl;
+  references = refl;
+  last = refl;
+  nothing = refl;
+}
 
 pub HasNo-fact : (f : Fact) → Good f → HasNo 10 (fact_line f)
 unfolding fact_line
@@ -47,7 +60,10 @@ HasNo-fact f good =
     let d = c ++ codes " " in
     let e = d ++ slot_word f.slot in
     let g = e ++ codes " " in
-    both g (value_word f.value) (both e (codes " ") (both d (slot_word f.slot) (both c (codes " ") (number b f.point (both a (codes " ") (number (codes "FACT ") f.entry words.fact good.numbers.entry) words.space) good.numbers.point) words.space)
+    both g (value_word f.value) (both e (codes " ")
+    (both d (slot_word f.slot) (both c (codes " ")
+    (number b f.point (both a (codes " ") (number (codes "FACT ") f.entry words.fact good.numbers.entry)
+    words.space) good.numbers.point) words.space)
     (HasNo-slot f.slot good.fits.slot 10 (omega arith))) words.space) (HasNo-value f.value good.fits.value good.numbers.value)
 
 HasNo-references : (v : Version) (n : ℕ) → IsNumber n → HasNo 10 (reference_words v n)
@@ -66,8 +82,13 @@ HasNo-shape v s numbers =
     let g = f ++ decimal s.cells in
     let h = g ++ codes " entries " in
     let i = h ++ decimal s.entries in
-    both i (reference_words v s.references) (number h s.entries (both g (codes " entries ") (number f s.cells (both e (codes " cells ") (number d s.points (both c (codes " points ") (number b s.blocks (both a (codes " blocks ")
-    (number (codes "EXCHANGE signals ") s.signals words.signals numbers.signals) words.blocks) numbers.blocks) words.points) numbers.points) words.cells) numbers.cells) words.entries) numbers.entries) (HasNo-references v s.references numbers.references)
+    both i (reference_words v s.references) (number h s.entries
+    (both g (codes " entries ") (number f s.cells
+    (both e (codes " cells ") (number d s.points
+    (both c (codes " points ") (number b s.blocks (both a (codes " blocks ")
+    (number (codes "EXCHANGE signals ") s.signals words.signals numbers.signals) words.blocks) numbers.blocks)
+    words.points) numbers.points) words.cells) numbers.cells) words.entries) numbers.entries)
+    (HasNo-references v s.references numbers.references)
 
 pub HasNo-last : HasNo 10 last_line
 HasNo-last = words.last
@@ -77,4 +98,12 @@ facts_no_end [] good = (words.last, tt)
 facts_no_end (f ∷ facts) good = (HasNo-fact f good.0, facts_no_end facts good.1)
 
 pub lines_no_end : (v : Version) (c : Certificate) → CertificateFits c → HaveNoEnd (certificate_lines v c)
-lines_no_end v c fits = (HasNo-version v, (HasNo-shape v c.shape fits.shape, facts_no_end c.facts (all_good c.facts (recursion_from_All FactFits c.facts fits.facts) (recursion_from_All FactNumbers c.facts fits.numbers))))
+lines_no_end v c fits = (
+  HasNo-version v,
+  (
+    HasNo-shape v c.shape fits.shape,
+    facts_no_end c.facts
+        (all_good c.facts (recursion_from_All FactFits c.facts fits.facts)
+        (recursion_from_All FactNumbers c.facts fits.numbers)),
+  ),
+)

@@ -1,5 +1,6 @@
 -- Numbers behind labels.
-use Rattle.std.proofs.Common.{◌≡◌, ◌≢◌, ℕ, ◌^◌, ◌<◌, ◌≤◌, List, [], ◌∷◌, ◌++◌, decimal, refl, sym, ap, subst, ◌∙◌, arith}
+use Rattle.std.proofs.Common.{◌≡◌, ◌≢◌, ℕ, ◌^◌, ◌<◌, ◌≤◌, List, [], ◌∷◌, ◌++◌, decimal, refl, sym}
+use Rattle.std.proofs.Common.{ap, subst, ◌∙◌, arith}
 use Rattle.std.proofs.lemmas.Fmt.{decimal_injective}
 use Rattle.std.proofs.lemmas.List.{append_cancel_left}
 use Rattle.certificate_text.specs.Parts.{IsNumbered}
@@ -22,7 +23,8 @@ end_stands end (b ∷ word) rest apart = end_stands end word rest (HasNo-tail en
 pub number_uncut : (text : List ℕ) (end : ℕ) → end < 48 → HasNo end text → NoNumber [] end text
 number_uncut text end low apart n rest is = end_stands end (decimal n) rest (subst (HasNo end) is.so apart)
 
-pub number_unsaid : (text word after : List ℕ) (end : ℕ) → end < 48 → IsCut end text word after → ((n : ℕ) → n < 2 ^ 32 → word ≢ decimal n) → NoNumber [] end text
+pub number_unsaid : (text word after : List ℕ) (end : ℕ) → end < 48 → IsCut end text word after
+    → ((n : ℕ) → n < 2 ^ 32 → word ≢ decimal n) → NoNumber [] end text
 number_unsaid text word after end low cut unsaid n rest is =
     unsaid n is.number (cut_once end word (decimal n) (end ∷ after) (end ∷ rest) cut.apart (HasNo-decimal end n low is.number) refl refl (sym cut.so ∙ is.so)).0
 
@@ -37,10 +39,12 @@ unsaid_behind label text rest end so unsaid n after is =
     unsaid n after (record { number = is.number; so = append_cancel_left label rest (decimal n ++ end ∷ after) (sym so ∙ is.so) })
 
 -- a text has one number behind a label
-pub numbered_once : (label text rest other : List ℕ) (n m end : ℕ) → end < 48 → IsNumbered label n end text rest → IsNumbered label m end text other → (n ≡ m) × (rest ≡ other)
+pub numbered_once : (label text rest other : List ℕ) (n m end : ℕ) → end < 48 → IsNumbered label n end text rest
+    → IsNumbered label m end text other → (n ≡ m) × (rest ≡ other)
 numbered_once label text rest other n m end low a b =
     let tail = append_cancel_left label (decimal n ++ end ∷ rest) (decimal m ++ end ∷ other) (sym a.so ∙ b.so) in
-    let cut = cut_once end (decimal n) (decimal m) (end ∷ rest) (end ∷ other) (HasNo-decimal end n low a.number) (HasNo-decimal end m low b.number) refl refl tail in
+    let cut = cut_once end (decimal n) (decimal m) (end ∷ rest) (end ∷ other) (HasNo-decimal end n low a.number)
+    (HasNo-decimal end m low b.number) refl refl tail in
     let small : n < 2 ^ 64 = omega (arith, a.number) in
     let too : m < 2 ^ 64 = omega (arith, b.number) in
     let behind : end ∷ rest ≡ end ∷ other = cut.1 in
@@ -59,8 +63,10 @@ small_large label text rest m below end low there large n after less is =
     absurd (omega (arith, same, less, large))
 
 -- the same of texts that are one
-pub numbered_same : (label text on rest other : List ℕ) (n m end : ℕ) → end < 48 → text ≡ on → IsNumbered label n end text rest → IsNumbered label m end on other → (n ≡ m) × (rest ≡ other)
-numbered_same label text on rest other n m end low same a b = numbered_once label text rest other n m end low a (subst (λ t. IsNumbered label m end t other) (sym same) b)
+pub numbered_same : (label text on rest other : List ℕ) (n m end : ℕ) → end < 48 → text ≡ on
+    → IsNumbered label n end text rest → IsNumbered label m end on other → (n ≡ m) × (rest ≡ other)
+numbered_same label text on rest other n m end low same a b = numbered_once label text rest other n m end low a
+    (subst (λ t. IsNumbered label m end t other) (sym same) b)
 
 pub none_here : (label text on other : List ℕ) (m end : ℕ) → text ≡ on → NoNumber label end text → IsNumbered label m end on other → ⊥
 none_here label text on other m end same none b = none m other (subst (λ t. IsNumbered label m end t other) (sym same) b)

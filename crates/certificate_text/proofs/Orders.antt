@@ -1,5 +1,7 @@
 -- Facts that rise strictly, with one more at their end.
-use Rattle.std.proofs.Common.{◌≡◌, ℕ, zero, suc, ◌+◌, ◌-◌, Bool, true, List, [], ◌∷◌, ◌++◌, length, get_or, Some, None, IsTrue, refl, sym, ap, subst, ◌∙◌, arith, append_assoc}
+use Rattle.std.proofs.Common.{◌≡◌, ℕ, zero, suc, ◌+◌, ◌-◌, Bool, true, List, [], ◌∷◌, ◌++◌, length}
+use Rattle.std.proofs.Common.{get_or, Some, None, IsTrue, refl, sym, ap, subst, ◌∙◌, arith}
+use Rattle.std.proofs.Common.{append_assoc}
 use Rattle.std.specs.Prelude.{slice_get}
 use Rattle.std.specs.List.{AllByRecursion}
 use Rattle.std.specs.List.Sorted.{IsStrictlySortedBy}
@@ -50,7 +52,8 @@ rise_last [] last f rise = rise.0.0
 rise_last (x ∷ front) last f rise = rise_last front last f rise.1
 
 -- facts with a last one
-split_last : (facts : List Fact) (i : ℕ) (last : Fact) → slice_get facts i ≡ Some last → i + 1 ≡ length facts → (front : List Fact) × (facts ≡ front ++ last ∷ [])
+split_last : (facts : List Fact) (i : ℕ) (last : Fact) → slice_get facts i ≡ Some last → i + 1 ≡ length facts
+    → (front : List Fact) × (facts ≡ front ++ last ∷ [])
 split_last [] i last e n = cc
 split_last (x ∷ xs) zero last e n =
     let same : x ≡ last = cc in
@@ -70,7 +73,8 @@ none_left (x ∷ xs) i e n =
 abbrev pub TellsFact : List Fact → Fact → Bool → Type 0
 TellsFact facts f r = (IsTrue r → Rise (facts ++ f ∷ [])) × (Rise (facts ++ f ∷ []) → IsTrue r)
 
-pub rises_behind : (facts : List Fact) (last f : Fact) (r : Bool) → Rise facts → Some last ≡ slice_get facts (length facts - 1) → r ≡ is_lt (fact_order last f) → TellsFact facts f r
+pub rises_behind : (facts : List Fact) (last f : Fact) (r : Bool) → Rise facts
+    → Some last ≡ slice_get facts (length facts - 1) → r ≡ is_lt (fact_order last f) → TellsFact facts f r
 rises_behind facts last f r rise there is =
     let within = slice_get_within facts (length facts - 1) last (sym there) in
     let split = split_last facts (length facts - 1) last (sym there) (omega (arith, within)) in

@@ -1,8 +1,9 @@
 -- The text of a certificate, or the first line of a text that is not as stated.
 --
--- The lines of a text stand in a list, each with its LF, and behind them what follows the last LF, which is nothing in a text that is ended
--- well. So a text that breaks off, a last line without its LF and bytes after the last line are all at fault at a line: the one
--- that no certificate has at its place behind the lines before it.
+-- The lines of a text stand in a list, each with its LF, and behind them what follows the last LF,
+-- which is nothing in a text that is ended well. So a text that breaks off, a last line without its
+-- LF and bytes after the last line are all at fault at a line: the one that no certificate has at
+-- its place behind the lines before it.
 use Rattle.std.specs.Prelude.{◌≡◌, ℕ, ◌-◌, List, [], ◌∷◌, ◌++◌, map, take, Result, Ok, Err}
 use Rattle.certificate_text.specs.declared.certificate.Certificate.{Certificate}
 use Rattle.certificate_text.specs.declared.fault.TextFault.{TextFault}
@@ -31,7 +32,8 @@ pub record BeginText (lines : List (List ℕ)) : Type 0 where
   pub rest : List (List ℕ)
   pub so : lines ++ rest ≡ whole (certificate_lines version certificate)
 
--- the line l, from 1, is the first that is not as stated: the lines before it begin some text of a certificate, and no longer with it
+-- the line l, from 1, is the first that is not as stated: the lines before it begin some text of a
+-- certificate, and no longer with it
 pub record HasBadLine (text : List ℕ) (l : ℕ) : Type 0 where
   pub before : BeginText (take (l - 1) (lines_in text))
   pub here : BeginText (take l (lines_in text)) → ⊥

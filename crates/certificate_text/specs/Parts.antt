@@ -6,7 +6,10 @@ use Rattle.flow_points.specs.declared.fact.Slot.{Slot}
 use Rattle.flow_points.specs.declared.fact.Value.{Value}
 use Rattle.certificate_text.specs.declared.certificate.Shape.{Shape}
 use Rattle.certificate_text.specs.declared.version.Version.{Version}
-use Rattle.certificate_text.specs.Text.{CanTell, FactFits, FactNumbers, HasTextNumber, IsNumber, ShapeNumbers, SlotFits, ValueFits, fact_line, reference_words, shape_line, slot_word, value_word, version_line}
+use Rattle.certificate_text.specs.Text.{CanTell, FactFits, FactNumbers, HasTextNumber, IsNumber}
+use Rattle.certificate_text.specs.Text.{ShapeNumbers, SlotFits, ValueFits, fact_line}
+use Rattle.certificate_text.specs.Text.{reference_words, shape_line, slot_word, value_word}
+use Rattle.certificate_text.specs.Text.{version_line}
 use Rattle.text_lines.specs.Lines.{ended}
 
 -- the text begins with a label, a number and a byte
@@ -19,11 +22,13 @@ pub record IsVersionAt (text : List ℕ) (v : Version) (rest : List ℕ) : Type 
   pub so : text ≡ ended (version_line v) ++ rest
 
 -- it begins with the end of the line of a shape
-pub record AreLast (v : Version) (text : List ℕ) (entries references : ℕ) (rest : List ℕ) : Type 0 where
+pub record AreLast (v : Version) (text : List ℕ) (entries references : ℕ) (rest : List ℕ) : Type
+    0 where
   pub entries_number : IsNumber entries
   pub references_number : IsNumber references
   pub tells : CanTell v references
-  pub so : text ≡ codes "entries " ++ (decimal entries ++ (reference_words v references ++ 10 ∷ rest))
+  pub so : text ≡ codes "entries " ++ (decimal entries
+      ++ (reference_words v references ++ 10 ∷ rest))
 
 -- it begins with the line of a shape
 pub record IsShapeAt (v : Version) (text : List ℕ) (s : Shape) (rest : List ℕ) : Type 0 where

@@ -1,8 +1,9 @@
 -- The text of a certificate, as a function of its value.
 --
--- A text is a list of lines, each ended by LF: one tells the version, one the shape, one each fact, and the last says that the text ends.
--- Words stand one space apart, and numbers are written in decimal, which has no leading zero: so nothing is left to choose but
--- the version, and the first of the two tells only certificates without references.
+-- A text is a list of lines, each ended by LF: one tells the version, one the shape, one each fact,
+-- and the last says that the text ends. Words stand one space apart, and numbers are written in
+-- decimal, which has no leading zero: so nothing is left to choose but the version, and the first
+-- of the two tells only certificates without references.
 use Rattle.std.specs.Prelude.{◌≡◌, ℕ, ◌<◌, ◌^◌, List, [], ◌∷◌, ◌++◌, map, All, codes}
 use Rattle.std.specs.Fmt.{decimal}
 use Rattle.std.specs.List.{flat_map}
@@ -35,7 +36,8 @@ value_word Any = codes "ANY"
 -- the line of a fact
 unfoldable pub fact_line : Fact → List ℕ
 fact_line f =
-    codes "FACT " ++ decimal f.entry ++ codes " " ++ decimal f.point ++ codes " " ++ slot_word f.slot ++ codes " " ++ value_word f.value
+    codes "FACT " ++ decimal f.entry ++ codes " " ++ decimal f.point ++ codes " "
+    ++ slot_word f.slot ++ codes " " ++ value_word f.value
 
 -- the number of references, which the first version leaves out
 abbrev pub reference_words : Version → ℕ → List ℕ
@@ -45,8 +47,10 @@ reference_words Two n = codes " references " ++ decimal n
 -- the line of a shape
 unfoldable pub shape_line : Version → Shape → List ℕ
 shape_line v s =
-    codes "EXCHANGE signals " ++ decimal s.signals ++ codes " blocks " ++ decimal s.blocks ++ codes " points " ++ decimal s.points
-    ++ codes " cells " ++ decimal s.cells ++ codes " entries " ++ decimal s.entries ++ reference_words v s.references
+    codes "EXCHANGE signals " ++ decimal s.signals ++ codes " blocks " ++ decimal s.blocks
+    ++ codes " points " ++ decimal s.points
+    ++ codes " cells " ++ decimal s.cells ++ codes " entries " ++ decimal s.entries
+    ++ reference_words v s.references
 
 -- the line of a version
 abbrev pub version_line : Version → List ℕ
@@ -58,7 +62,8 @@ last_line = codes "END CERTIFICATE"
 
 -- the lines of a certificate in a version
 abbrev pub certificate_lines : Version → Certificate → List (List ℕ)
-certificate_lines v c = version_line v ∷ shape_line v c.shape ∷ map fact_line c.facts ++ last_line ∷ []
+certificate_lines v c =
+    version_line v ∷ shape_line v c.shape ∷ map fact_line c.facts ++ last_line ∷ []
 
 -- its text, in a version and as it is printed
 unfoldable pub text_in : Version → Certificate → List ℕ

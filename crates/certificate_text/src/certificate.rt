@@ -1,7 +1,8 @@
 use flow_points::Fact;
 use plex_num::Seq;
 
-/// How large an exchange is: its signals, blocks, points, cells and entries, and its SENDs and TRANSFERs with a held reference.
+/// How large an exchange is: its signals, blocks, points, cells and entries, and its SENDs and
+/// TRANSFERs with a held reference.
 #[derive(Clone, Copy, Debug, PartialEq, Eq)]
 pub struct Shape {
     pub signals: u32,

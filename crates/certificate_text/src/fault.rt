@@ -1,6 +1,7 @@
 use plex_num::Memory;
 
-/// Why a text is no certificate's: its first line that is not as stated, counted from 1, or that memory was refused.
+/// Why a text is no certificate's: its first line that is not as stated, counted from 1, or that
+/// memory was refused.
 #[derive(Clone, Copy, Debug, PartialEq, Eq)]
 pub enum TextFault {
     /// The line is not as stated; or the text ends before it.

@@ -17,7 +17,8 @@ pub fn text_has_one_certificate()
     ensures { (text : List ℕ) (c d : Certificate) → IsTextOf text c → IsTextOf text d → c ≡ d }
 {}
 
-/// A certificate has one text of the second version, which is printed, and one more of the first where it has no references.
+/// A certificate has one text of the second version, which is printed, and one more of the first
+/// where it has no references.
 pub fn certificate_has_these_texts()
     ensures texts { (text : List ℕ) (c : Certificate) → IsTextOf text c
         ↔ (CertificateFits c × ((text ≡ certificate_text c)

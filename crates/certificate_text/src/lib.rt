@@ -1,10 +1,12 @@
 // The text of a certificate, and the certificate of a text.
 //
-// What goes in: a certificate whose facts rise, or a text of at most 16 MiB, whatever its bytes. What comes out: the text, a line
-// for each fact; or the certificate whose text it is, else the first line that is not as stated. Who writes a certificate stands on
-// the contract of `print_certificate`, or where its facts come some at a time on those of `print_head`, `print_facts` and `print_end`;
-// who reads one on that of `read_certificate`; `laws` says that reading is the inverse of printing. It does not know whether an
-// exchange has the shape, nor what its facts mean.
+// What goes in: a certificate whose facts rise, or a text of at most 16 MiB, whatever its bytes.
+// What comes out: the text, a line for each fact; or the certificate whose text it is, else the
+// first line that is not as stated. Who writes a certificate stands on the contract of
+// `print_certificate`, or where its facts come some at a time on those of `print_head`,
+// `print_facts` and `print_end`; who reads one on that of `read_certificate`; `laws` says that
+// reading is the inverse of printing. It does not know whether an exchange has the shape, nor what
+// its facts mean.
 #![tactic(auto)]
 
 mod certificate;

@@ -13,8 +13,8 @@ pub fn after<'a>(text: &'a [u8], word: &[u8]) -> Option<&'a [u8]>
     text.strip_prefix(word)
 }
 
-/// The number behind a label, which ends at a byte below the digits, and what follows that; `None` where the text does not begin so,
-/// or the number is not below 2^32 or has a leading zero.
+/// The number behind a label, which ends at a byte below the digits, and what follows that; `None`
+/// where the text does not begin so, or the number is not below 2^32 or has a leading zero.
 pub fn numbered<'a>(text: &'a [u8], label: &[u8], end: u8) -> Option<(u32, &'a [u8])>
     requires { end < 48 }
     ensures { MatchOption result

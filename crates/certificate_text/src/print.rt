@@ -2,7 +2,9 @@
 ghost use Rattle.std.specs.Prelude.{◌≡◌, ◌++◌, ◌∷◌, All, IfOk, OnOk, codes};
 ghost use Rattle.std.specs.Fmt.{decimal};
 ghost use Rattle.std.specs.List.Sorted.{IsStrictlySortedBy};
-ghost use Rattle.certificate_text.specs.Text.{FactFits, certificate_text, fact_line, facts_text, head_text, last_text, shape_line, slot_word, value_word};
+ghost use Rattle.certificate_text.specs.Text.{FactFits, certificate_text, fact_line, facts_text};
+ghost use Rattle.certificate_text.specs.Text.{head_text, last_text, shape_line, slot_word};
+ghost use Rattle.certificate_text.specs.Text.{value_word};
 ghost use Rattle.certificate_text.specs.declared.version.Version.TheVariants.{Two};
 ghost use Rattle.text_lines.specs.Lines.{ended};
 ghost use Rattle.flow_points.specs.Orders.{fact_order};
@@ -12,8 +14,8 @@ use flow_points::{Fact, Slot, Value};
 use plex_num::{Memory, Seq, print_number};
 use std::alloc::Global;
 
-/// The text of a certificate whose facts rise strictly, with temporaries and places of values in their ranges. It fails only where
-/// memory is refused.
+/// The text of a certificate whose facts rise strictly, with temporaries and places of values in
+/// their ranges. It fails only where memory is refused.
 pub fn print_certificate(alloc: Global, certificate: &Certificate) -> Result<Seq<u8>, Memory>
     requires fits { All FactFits certificate.now.facts }
     requires rises { IsStrictlySortedBy fact_order certificate.now.facts }
@@ -26,8 +28,8 @@ pub fn print_certificate(alloc: Global, certificate: &Certificate) -> Result<Seq
     Ok(text)
 }
 
-/// Appends the lines before the facts: of the version and of the shape. With `print_facts` and `print_end` a certificate is written
-/// whose facts come some at a time.
+/// Appends the lines before the facts: of the version and of the shape. With `print_facts` and
+/// `print_end` a certificate is written whose facts come some at a time.
 pub fn print_head(text: &mut Seq<u8>, shape: Shape) -> Result<(), Memory>
     ensures { OnOk result (text.new ≡ text.old ++ head_text shape) }
 {

@@ -3,7 +3,8 @@ ghost use Rattle.std.specs.Prelude.{◌≡◌, ◌≤◌, ◌↔◌, ◌++◌, �
 ghost use Rattle.std.specs.List.Sorted.{IsStrictlySortedBy};
 ghost use Rattle.plex_limits.specs.declared.limits.TheConstants.{MOST_BYTES};
 ghost use Rattle.flow_points.specs.Orders.{fact_order};
-ghost use Rattle.certificate_text.specs.Lines.{HasBadLine, IsTextOf, IsUnlessMemory, TellsCertificate};
+ghost use Rattle.certificate_text.specs.Lines.{HasBadLine, IsTextOf, IsUnlessMemory};
+ghost use Rattle.certificate_text.specs.Lines.{TellsCertificate};
 ghost use Rattle.certificate_text.specs.Parts.{Begun};
 ghost use Rattle.certificate_text.specs.declared.certificate.Certificate.{Certificate};
 ghost use Rattle.certificate_text.specs.declared.fault.TextFault.TheVariants.{BadText};
@@ -18,8 +19,9 @@ use flow_points::Fact;
 use plex_num::Seq;
 use std::alloc::Global;
 
-/// The certificate whose text this is, of at most 16 MiB; else its first line that is not as stated. A text that ends too early is bad
-/// at the line after its last, and so is one that goes on behind the last line of a certificate; a last line without its LF is bad.
+/// The certificate whose text this is, of at most 16 MiB; else its first line that is not as
+/// stated. A text that ends too early is bad at the line after its last, and so is one that goes on
+/// behind the last line of a certificate; a last line without its LF is bad.
 pub fn read_certificate(alloc: Global, text: &[u8]) -> Result<Certificate, TextFault>
     requires { length text.now ≤ MOST_BYTES }
     ensures told { TellsCertificate text.now result }

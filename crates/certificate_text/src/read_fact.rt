@@ -9,7 +9,8 @@ use crate::parts::{after, numbered, small};
 use flow_points::{Fact, Slot, Value};
 use plex_limits::{MOST_TEMPORARIES, MOST_VALUES};
 
-/// The fact that the first line tells, and what follows the line; `None` where the line is no fact's.
+/// The fact that the first line tells, and what follows the line; `None` where the line is no
+/// fact's.
 pub fn fact(text: &[u8]) -> Option<(Fact, &[u8])>
     ensures { MatchOption result
         ((f : Fact) (rest : List ℕ) → IsFactAt text.now f rest → ⊥)

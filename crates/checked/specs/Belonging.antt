@@ -13,8 +13,8 @@ IsValueOfEntry x e (Arg k) = k < entry_count x e
 IsValueOfEntry x e (Const c) = Unit {0}
 IsValueOfEntry x e Any = Unit {0}
 
--- a fact is of the exchange where its entry, its point and its slot are there, and its value is one of the entry; any other is
--- strange
+-- a fact is of the exchange where its entry, its point and its slot are there, and its value is one
+-- of the entry; any other is strange
 pub record IsOfExchange (x : Exchange) (f : Fact) : Type 0 where
   pub entry : f.entry < length x.entries
   pub slot : HasSlot x f.point f.slot

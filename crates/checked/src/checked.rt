@@ -6,7 +6,8 @@ use entry_summary::Summary;
 use kept_summaries::Summaries;
 use std::marker::Model;
 
-/// The summary of each entry of an exchange, by the facts of a certificate that is one of it. The facts themselves are not kept.
+/// The summary of each entry of an exchange, by the facts of a certificate that is one of it. The
+/// facts themselves are not kept.
 pub struct Checked {
     summaries: Summaries,
 }
@@ -34,7 +35,8 @@ impl Model for Checked {
 }
 
 impl Checked {
-    /// What keeps these summaries, one for each entry, of which there are no more than an exchange may have.
+    /// What keeps these summaries, one for each entry, of which there are no more than an exchange
+    /// may have.
     pub fn new(summaries: Summaries) -> Checked
         requires { length summaries ≤ MOST_ENTRIES }
         ensures { result.summaries ≡ summaries }

@@ -1,5 +1,6 @@
 -- The files of an exchange, by number.
-use Rattle.std.proofs.Common.{◌≡◌, ℕ, ◌+◌, ◌*◌, ◌≤◌, List, length, Option, Some, None, slice_get, refl, sym, ap, ◌∙◌, arith}
+use Rattle.std.proofs.Common.{◌≡◌, ℕ, ◌+◌, ◌*◌, ◌≤◌, List, length, Option, Some, None, slice_get}
+use Rattle.std.proofs.Common.{refl, sym, ap, ◌∙◌, arith}
 use Rattle.std.specs.Option.{MatchOption}
 use Rattle.std.proofs.lemmas.Nat.{mul-le}
 use Rattle.std.proofs.lemmas.Option.{slice_get_past}
@@ -29,7 +30,8 @@ module _ (s : Setting) (h : IsSetting s) where
   site_files = refl
 
   -- what the exchange finds of a file
-  pub file_in : (n : ℕ) (found : Option FilePlace) → FindsFile s.exchange.now.blocks n found → MatchOption found (slice_get (places_in s).site.files n ≡ None) (λ p. IsFileIn s n (placed_of p))
+  pub file_in : (n : ℕ) (found : Option FilePlace) → FindsFile s.exchange.now.blocks n found
+      → MatchOption found (slice_get (places_in s).site.files n ≡ None) (λ p. IsFileIn s n (placed_of p))
   file_in n None e = ap (λ ps. slice_get ps n) site_files ∙ e
   file_in n (Some f) e =
       let p = placed_of f in

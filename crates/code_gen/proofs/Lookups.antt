@@ -1,5 +1,7 @@
 -- What look-ups find.
-use Rattle.std.proofs.Common.{◌≡◌, ℕ, zero, suc, ◌+◌, ◌-◌, ◌≤◌, min, Bool, true, false, List, [], ◌∷◌, length, drop, Some, slice_get, slice_index, refl, sym, ap, ◌∙◌, if◌then◌else◌}
+use Rattle.std.proofs.Common.{◌≡◌, ℕ, zero, suc, ◌+◌, ◌-◌, ◌≤◌, min, Bool, true, false, List, []}
+use Rattle.std.proofs.Common.{◌∷◌, length, drop, Some, slice_get, slice_index, refl, sym, ap, ◌∙◌}
+use Rattle.std.proofs.Common.{if◌then◌else◌}
 use Rattle.std.proofs.Math.ListN.{drop_of_length-le}
 use Rattle.std.proofs.Math.Seq.{drop-nil}
 use Rattle.std.proofs.lemmas.Option.{none-some, same_Some}
@@ -22,7 +24,8 @@ use Rattle.code_gen.specs.Addresses.{address_in, opens_with_enter}
 pub address_none : (a : Addresses) (b place : ℕ) → length a.blocks ≤ b → a.end ≡ address_in a b place
 address_none a b place past = sym (found_past a.blocks b a.end (λ places. slice_index places (min place (length places - 1))) past)
 
-pub address_some : (a : Addresses) (b place n : ℕ) (places : List ℕ) → slice_get a.blocks b ≡ Some places → n ≡ slice_index places (min place (length places - 1)) → n ≡ address_in a b place
+pub address_some : (a : Addresses) (b place n : ℕ) (places : List ℕ) → slice_get a.blocks b ≡ Some places
+    → n ≡ slice_index places (min place (length places - 1)) → n ≡ address_in a b place
 address_some a b place n places there is = is ∙ sym (found_at a.blocks b places a.end (λ places. slice_index places (min place (length places - 1))) there)
 
 abbrev width_in : ℕ → Block → ℕ
@@ -34,7 +37,8 @@ width_no_block x b v past = sym (found_past x.blocks b 0 (width_in v) past)
 pub width_none : (x : Exchange) (b v : ℕ) (k : Block) → slice_get x.blocks b ≡ Some k → length k.variables ≤ v → 0 ≡ variable_width x b v
 width_none x b v k there past = sym (found_at x.blocks b k 0 (width_in v) there ∙ found_past k.variables v 0 (λ (e : Variable). e.width) past)
 
-pub width_some : (x : Exchange) (b v : ℕ) (k : Block) (e : Variable) → slice_get x.blocks b ≡ Some k → slice_get k.variables v ≡ Some e → e.width ≡ variable_width x b v
+pub width_some : (x : Exchange) (b v : ℕ) (k : Block) (e : Variable) → slice_get x.blocks b ≡ Some k
+    → slice_get k.variables v ≡ Some e → e.width ≡ variable_width x b v
 width_some x b v k e there is = sym (found_at x.blocks b k 0 (width_in v) there ∙ found_at k.variables v e 0 (λ (e : Variable). e.width) is)
 
 -- an ENTER at a place
@@ -42,15 +46,19 @@ width_some x b v k e there is = sym (found_at x.blocks b k 0 (width_in v) there 
 pub opens_no_block : (x : Exchange) (b place : ℕ) → length x.blocks ≤ b → false ≡ opens_with_enter (drop place (body_of x b))
 opens_no_block x b place past = sym (ap (λ ss. opens_with_enter (drop place ss)) (body_past x b past) ∙ ap opens_with_enter (drop-nil place))
 
-pub opens_no_place : (x : Exchange) (b place : ℕ) (k : Block) → slice_get x.blocks b ≡ Some k → length k.body ≤ place → false ≡ opens_with_enter (drop place (body_of x b))
-opens_no_place x b place k there past = sym (ap (λ ss. opens_with_enter (drop place ss)) (body_is x b k there) ∙ ap opens_with_enter (drop_of_length-le k.body past))
+pub opens_no_place : (x : Exchange) (b place : ℕ) (k : Block) → slice_get x.blocks b ≡ Some k → length k.body ≤ place
+    → false ≡ opens_with_enter (drop place (body_of x b))
+opens_no_place x b place k there past = sym (ap (λ ss. opens_with_enter (drop place ss)) (body_is x b k there)
+    ∙ ap opens_with_enter (drop_of_length-le k.body past))
 
 opened_at : (ss : List Stmt) (place : ℕ) (s : Stmt) → slice_get ss place ≡ Some s → opens_with_enter (drop place ss) ≡ is_enter (out-StmtKind s.kind)
 opened_at [] place s e = absurd (none-some s e)
 opened_at (t ∷ ss) zero s e = ap (λ (s : Stmt). is_enter (out-StmtKind s.kind)) (same_Some t s e)
 opened_at (t ∷ ss) (suc place) s e = opened_at ss place s e
 
-pub opens_at : (x : Exchange) (b place : ℕ) (k : Block) (s : Stmt) (is : Bool) → slice_get x.blocks b ≡ Some k → slice_get k.body place ≡ Some s → is ≡ is_enter (out-StmtKind s.kind) → is ≡ opens_with_enter (drop place (body_of x b))
+pub opens_at : (x : Exchange) (b place : ℕ) (k : Block) (s : Stmt) (is : Bool) → slice_get x.blocks b ≡ Some k
+    → slice_get k.body place ≡ Some s → is ≡ is_enter (out-StmtKind s.kind)
+    → is ≡ opens_with_enter (drop place (body_of x b))
 opens_at x b place k s is there at e = e ∙ sym (ap (λ ss. opens_with_enter (drop place ss)) (body_is x b k there) ∙ opened_at k.body place s at)
 
 -- fields

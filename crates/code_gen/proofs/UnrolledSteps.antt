@@ -1,5 +1,7 @@
 -- How much code stands again, told item by item.
-use Rattle.std.proofs.Common.{◌≡◌, ℕ, ◌+◌, ◌*◌, ◌<◌, ◌≤◌, Bool, true, false, List, [], ◌∷◌, ◌++◌, length, map, drop, get_or, Option, Some, None, slice_get, Result, Ok, Err, IfOk, refl, sym, ap, ◌∙◌, arith, length-append, suc-mul}
+use Rattle.std.proofs.Common.{◌≡◌, ℕ, ◌+◌, ◌*◌, ◌<◌, ◌≤◌, Bool, true, false, List, [], ◌∷◌, ◌++◌}
+use Rattle.std.proofs.Common.{length, map, drop, get_or, Option, Some, None, slice_get, Result, Ok}
+use Rattle.std.proofs.Common.{Err, IfOk, refl, sym, ap, ◌∙◌, arith, length-append, suc-mul}
 use Rattle.std.proofs.Math.ListN.{drop_of_length-le}
 use Rattle.std.proofs.Math.Nat.{zero-mul}
 use Rattle.std.proofs.lemmas.Option.{none-some}
@@ -16,7 +18,8 @@ use Rattle.exchange_model.specs.declared.stmt.StmtKind.TheOpen as layer
 use Rattle.exchange_model.specs.declared.stmt.StmtKind.TheVariants as kind
 use Rattle.exchange_model.specs.declared.stmt.Stmt.{Stmt, fold_out-Stmt}
 use Rattle.exchange_model.specs.declared.stmt.When.{When, out-When, fold_out-When}
-use Rattle.exchange_model.specs.declared.stmt.StmtKind.{StmtKind, StmtKind-F, out-StmtKind, fold_out-StmtKind}
+use Rattle.exchange_model.specs.declared.stmt.StmtKind.{StmtKind, StmtKind-F, out-StmtKind}
+use Rattle.exchange_model.specs.declared.stmt.StmtKind.{fold_out-StmtKind}
 use Rattle.exchange_model.specs.Cells.{Placed, marks, placed_files, record_cells}
 use Rattle.exchange_model.specs.Inside.{total}
 use Rattle.exchange_model.proofs.Layers.{same_kind}
@@ -26,7 +29,8 @@ use Rattle.stmt_code.specs.declared.lengths.TheConstants.{COMPARE_LENGTH}
 use Rattle.stmt_code.specs.StmtCode.{Places, each_receiver, look_first}
 use Rattle.stmt_code.specs.RecordCode.{free_code, inits_code}
 use Rattle.stmt_code.proofs.Sizes.{choice_length}
-use Rattle.code_gen.specs.Unrolled.{layer_unrolled, kind_unrolled, stmt_unrolled, when_unrolled, text_unrolled, opened_unrolled}
+use Rattle.code_gen.specs.Unrolled.{layer_unrolled, kind_unrolled, stmt_unrolled, when_unrolled}
+use Rattle.code_gen.specs.Unrolled.{text_unrolled, opened_unrolled}
 
 -- sums over a list
 
@@ -34,7 +38,9 @@ module _ {T : Type 0} (tells : T → ℕ) where
   pub sum_begin : (ts given : List T) → given ≡ ts → 0 + total (map tells given) ≡ total (map tells ts)
   sum_begin ts given same = let sums : total (map tells given) ≡ total (map tells ts) = ap (λ us. total (map tells us)) same in omega (arith, sums)
 
-  pub sum_more : (ts : List T) (i : ℕ) (t : T) (more before after all : ℕ) → i < length ts → t ≡ get_or ts i t → more ≡ tells t → after ≡ before + more → before + total (map tells (drop i ts)) ≡ all → after + total (map tells (drop (i + 1) ts)) ≡ all
+  pub sum_more : (ts : List T) (i : ℕ) (t : T) (more before after all : ℕ) → i < length ts → t ≡ get_or ts i t
+      → more ≡ tells t → after ≡ before + more → before + total (map tells (drop i ts)) ≡ all
+      → after + total (map tells (drop (i + 1) ts)) ≡ all
   sum_more ts i t more before after all lt is told e h =
       let first : total (map tells (drop i ts)) ≡ tells t + total (map tells (drop (i + 1) ts)) = ap (λ us. total (map tells us)) (opens ts i t lt is) in
       omega (arith, told, e, h, first)
@@ -83,10 +89,13 @@ pub free_none : (x : Exchange) (file temp : ℕ) → slice_get (placed_files x.b
 unfolding files_of
 free_none x file temp none = sym (ap (λ o. length (free_code o file temp)) none)
 
-pub free_is : (x : Exchange) (file temp own fields n : ℕ) (p : Placed) → slice_get (placed_files x.blocks) file ≡ Some p → own ≡ marks p.file.forlopp → fields ≡ length p.file.fields → n ≡ 5 + own + 2 * fields → n ≡ length (free_code (slice_get (files_of x) file) file temp)
+pub free_is : (x : Exchange) (file temp own fields n : ℕ) (p : Placed) → slice_get (placed_files x.blocks) file ≡ Some p
+    → own ≡ marks p.file.forlopp → fields ≡ length p.file.fields → n ≡ 5 + own + 2 * fields
+    → n ≡ length (free_code (slice_get (files_of x) file) file temp)
 unfolding files_of
 free_is x file temp own fields n p there is_own are e =
-    let code : length (free_code (slice_get (placed_files x.blocks) file) file temp) ≡ 5 + marks p.file.forlopp + 2 * length p.file.fields = ap (λ o. length (free_code o file temp)) there ∙ free_some p file temp in
+    let code : length (free_code (slice_get (placed_files x.blocks) file) file temp) ≡ 5 + marks p.file.forlopp
+    + 2 * length p.file.fields = ap (λ o. length (free_code o file temp)) there ∙ free_some p file temp in
     omega (arith, e, is_own, are, code)
 
 -- receivers
@@ -98,7 +107,8 @@ each_length (b ∷ bs) f m a same =
     let rest = each_receiver bs f next in
     omega (arith, choice_length (b + 1) next (f b) (op.Jmp (next + length rest)) rest, same b, each_length bs f m next same, suc-mul (length bs) (4 + m))
 
-module _ (bs : List ℕ) (values : List Expr) (f : ℕ → List Op) (m count chosen : ℕ) (few : count ≡ length bs) (same : (b : ℕ) → length (f b) ≡ m) (is : chosen ≡ count * (4 + m) + 1) where
+module _ (bs : List ℕ) (values : List Expr) (f : ℕ → List Op) (m count chosen : ℕ) (few : count ≡ length bs)
+    (same : (b : ℕ) → length (f b) ≡ m) (is : chosen ≡ count * (4 + m) + 1) where
   all_length : chosen ≡ length (each_receiver bs f 0)
   all_length = is ∙ ap (λ n. n * (4 + m) + 1) few ∙ sym (each_length bs f m 0 same)
 
@@ -122,15 +132,21 @@ pub tells : (r : Result ℕ Memory) (n m : ℕ) → n ≡ m → IfOk r (λ v. v 
 tells (Ok v) n m e h = h ∙ e
 tells (Err _) n m e h = tt
 
-pub none_unrolled : (pl : Places) (k : StmtKind) → ((c : Cond) (ys ns : List Stmt) → k ≡ kind.If c ys ns → ⊥) → ((e : Expr) (ws : List When) (os : List Stmt) → k ≡ kind.Case e ws os → ⊥) → ((t : ℕ) (e f : Expr) (body : List Stmt) → k ≡ kind.On t e f body → ⊥)
-    → ((signal : ℕ) (to : Option Receiver) (values : List Expr) (fresh : Bool) → k ≡ kind.Send signal to values fresh → ⊥) → ((signal : ℕ) (to : Option Receiver) → k ≡ kind.Transfer signal to → ⊥) → ((temp file : ℕ) → k ≡ kind.Free temp file → ⊥) → 0 ≡ kind_unrolled pl k
+pub none_unrolled : (pl : Places) (k : StmtKind) → ((c : Cond) (ys ns : List Stmt) → k ≡ kind.If c ys ns → ⊥)
+    → ((e : Expr) (ws : List When) (os : List Stmt) → k ≡ kind.Case e ws os → ⊥)
+    → ((t : ℕ) (e f : Expr) (body : List Stmt) → k ≡ kind.On t e f body → ⊥)
+    → ((signal : ℕ) (to : Option Receiver) (values : List Expr) (fresh : Bool) → k ≡ kind.Send signal to values fresh
+    → ⊥) → ((signal : ℕ) (to : Option Receiver) → k ≡ kind.Transfer signal to → ⊥)
+    → ((temp file : ℕ) → k ≡ kind.Free temp file → ⊥) → 0 ≡ kind_unrolled pl k
 none_unrolled pl k no_if no_case no_on no_send no_transfer no_free = layer_is pl k (out-StmtKind k) 0 refl (alone (out-StmtKind k) refl)
   where
     alone : (l : StmtKind-F StmtKind Stmt When) → out-StmtKind k ≡ l → 0 ≡ opened_unrolled pl l
     alone (layer.If c ys ns) is = absurd (no_if c ys ns (same_kind k (kind.If c ys ns) _ is (kind.outs-If c ys ns)))
     alone (layer.Case e ws os) is = absurd (no_case e ws os (same_kind k (kind.Case e ws os) _ is (kind.outs-Case e ws os)))
     alone (layer.On t e f body) is = absurd (no_on t e f body (same_kind k (kind.On t e f body) _ is (kind.outs-On t e f body)))
-    alone (layer.Send signal to values fresh) is = absurd (no_send signal to values fresh (same_kind k (kind.Send signal to values fresh) _ is (kind.outs-Send signal to values fresh)))
+    alone (layer.Send signal to values fresh) is = absurd
+        (no_send signal to values fresh (same_kind k (kind.Send signal to values fresh) _ is
+        (kind.outs-Send signal to values fresh)))
     alone (layer.Transfer signal to) is = absurd (no_transfer signal to (same_kind k (kind.Transfer signal to) _ is (kind.outs-Transfer signal to)))
     alone (layer.Free temp file) is = absurd (no_free temp file (same_kind k (kind.Free temp file) _ is (kind.outs-Free temp file)))
     alone _ is = refl

@@ -1,8 +1,9 @@
 -- The addresses of the places of all texts, and the table that they make.
 --
--- A text has one place more than it has statements. What lies past a text, or past the last block, stands where the text or
--- the code ends, so that each place has an address.
-use Rattle.std.specs.Prelude.{ℕ, zero, suc, ◌+◌, ◌-◌, min, Bool, false, List, [], ◌∷◌, ◌++◌, length, map, drop, slice_get, slice_index}
+-- A text has one place more than it has statements. What lies past a text, or past the last block,
+-- stands where the text or the code ends, so that each place has an address.
+use Rattle.std.specs.Prelude.{ℕ, zero, suc, ◌+◌, ◌-◌, min, Bool, false, List, [], ◌∷◌, ◌++◌, length}
+use Rattle.std.specs.Prelude.{map, drop, slice_get, slice_index}
 use Rattle.exchange_model.specs.declared.exchange.Exchange.{Exchange}
 use Rattle.exchange_model.specs.declared.stmt.Stmt.{Stmt}
 use Rattle.exchange_model.specs.declared.stmt.StmtKind.{out-StmtKind}
@@ -15,7 +16,8 @@ use Rattle.code_gen.specs.declared.addresses.Addresses.{Addresses}
 
 -- the address of a place of a block's text
 abbrev pub address_in : Addresses → ℕ → ℕ → ℕ
-address_in a b place = option_map_or (λ places. slice_index places (min place (length places - 1))) (slice_get a.blocks b) a.end
+address_in a b place = option_map_or (λ places. slice_index places (min place (length places - 1)))
+    (slice_get a.blocks b) a.end
 
 abbrev pub no_addresses : Addresses
 no_addresses = record { blocks = []; end = 0 }
@@ -26,7 +28,8 @@ opens_with_enter [] = false
 opens_with_enter (s ∷ rest) = is_enter (out-StmtKind s.kind)
 
 abbrev pub enter_in : Exchange → Addresses → ℕ → ℕ → ℕ
-enter_in x a b signal = behind_enter (drop (enter_place x b signal) (body_of x b)) (address_in a b (enter_place x b signal)) a.end
+enter_in x a b signal = behind_enter (drop (enter_place x b signal) (body_of x b))
+    (address_in a b (enter_place x b signal)) a.end
 
 -- the addresses of labels and of ENTERs
 abbrev pub table_in : Exchange → Addresses → Table
@@ -40,7 +43,11 @@ addresses_from (c ∷ cs) pl a = a ∷ addresses_from cs pl (a + length (c pl 0 
 -- the addresses that the code of the first so many blocks has, made with this table
 unfoldable pub places_upto : Exchange → Table → ℕ → List (List ℕ)
 places_upto x t zero = []
-places_upto x t (suc n) = places_upto x t n ++ addresses_from (map stmt_code (body_of x n)) (places_of x t n) (length (code_upto x t n)) ∷ []
+places_upto x t (suc n) = places_upto x t n ++ addresses_from (map stmt_code (body_of x n))
+    (places_of x t n) (length (code_upto x t n)) ∷ []
 
 abbrev pub addresses_by : Exchange → Table → Addresses
-addresses_by x t = record { blocks = places_upto x t (length x.blocks); end = length (code_upto x t (length x.blocks)) }
+addresses_by x t = record {
+  blocks = places_upto x t (length x.blocks);
+  end = length (code_upto x t (length x.blocks));
+}

@@ -9,7 +9,8 @@ use Rattle.code_gen.specs.declared.control.Choice.{Choice}
 -- these choices, with the end behind the whole
 abbrev pub choice_codes : List Choice → ℕ → List Op
 choice_codes [] end = []
-choice_codes (c ∷ cs) end = compare_code c.number c.next ++ (c.body ++ (op.Jmp end ∷ choice_codes cs end))
+choice_codes (c ∷ cs) end =
+    compare_code c.number c.next ++ (c.body ++ (op.Jmp end ∷ choice_codes cs end))
 
 -- the choices that stand from this address on
 abbrev pub chosen : List Source → Places → ℕ → ℕ → List Choice
@@ -22,4 +23,5 @@ chosen (w ∷ ws) pl d a =
 -- the address behind them
 abbrev pub behind_choices : List Source → Places → ℕ → ℕ → ℕ
 behind_choices [] pl d a = a
-behind_choices (w ∷ ws) pl d a = behind_choices ws pl d (a + COMPARE_LENGTH + length (codes w.body pl d (a + COMPARE_LENGTH)) + 1)
+behind_choices (w ∷ ws) pl d a = behind_choices ws pl d
+    (a + COMPARE_LENGTH + length (codes w.body pl d (a + COMPARE_LENGTH)) + 1)

@@ -31,4 +31,5 @@ behind_arms (b ∷ bs) arm a = behind_arms bs arm (a + COMPARE_LENGTH + length (
 
 -- the block of this number, where it receives the signal
 abbrev pub receiver_at : Exchange → ℕ → ℕ → List ℕ
-receiver_at x signal b = (if option_map_or (is_receiver signal) (slice_get x.blocks b) false then b ∷ [] else [])
+receiver_at x signal b =
+    (if option_map_or (is_receiver signal) (slice_get x.blocks b) false then b ∷ [] else [])

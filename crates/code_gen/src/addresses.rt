@@ -4,7 +4,8 @@ ghost use Rattle.code_gen.specs.Addresses.{address_in};
 
 use plex_num::{Memory, Seq};
 
-/// For each block the addresses of the places of its text, which are one more than its statements, and the end of all blocks.
+/// For each block the addresses of the places of its text, which are one more than its statements,
+/// and the end of all blocks.
 #[derive(Drop)]
 pub struct Addresses {
     pub blocks: Seq<Seq<u32>>,
@@ -12,7 +13,8 @@ pub struct Addresses {
 }
 
 impl Addresses {
-    /// The address of a place of a block's text; past the text, its end, and past the last block, the end of all.
+    /// The address of a place of a block's text; past the text, its end, and past the last block,
+    /// the end of all.
     #[tactic(auto, using(crate::proofs::Lookups::address_none, crate::proofs::Lookups::address_some))]
     pub fn at(&self, block: u32, place: u32) -> u32
         ensures { result ≡ address_in self.now block place }
@@ -35,7 +37,8 @@ fn nearest(places: &[u32], place: usize) -> u32
     }
 }
 
-/// The address so many instructions and some more behind an address, which must be a number of 32 bits.
+/// The address so many instructions and some more behind an address, which must be a number of 32
+/// bits.
 pub fn address_after(start: u32, len: usize, more: u32) -> Result<u32, Memory>
     ensures { IfOk result (λ a. a ≡ start + len + more) }
 {
@@ -55,7 +58,8 @@ pub fn address_plus(start: u32, more: u32) -> Result<u32, Memory>
     start.checked_add(more).ok_or(Memory)
 }
 
-/// The address behind what a list has more than so many instructions, which must be a number of 32 bits.
+/// The address behind what a list has more than so many instructions, which must be a number of 32
+/// bits.
 pub fn address_between(start: u32, before: usize, now: usize) -> Result<u32, Memory>
     ensures { IfOk result (λ a. a + before ≡ start + now) }
 {

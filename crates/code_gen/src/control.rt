@@ -91,8 +91,8 @@ pub fn exit(spot: Spot, ops: &mut Seq<Op>) -> Result<(), Memory>
     push_all(ops, &[Op::Stmt { p: spot.point }, Op::End])
 }
 
-/// One of two lists, by whether register 0 is 0 after the test: the code of the other one stands at `no_at`, and `both` tells
-/// whether that one has a statement.
+/// One of two lists, by whether register 0 is 0 after the test: the code of the other one stands at
+/// `no_at`, and `both` tells whether that one has a statement.
 #[tactic(auto, using(crate::proofs::ControlSteps::branches_are))]
 pub fn push_branches(
     point: u32,
@@ -115,7 +115,8 @@ pub fn push_branches(
     push_code(no, ops)
 }
 
-/// Appends the jump from the end of the first list of an IF past the other one, where that has a statement.
+/// Appends the jump from the end of the first list of an IF past the other one, where that has a
+/// statement.
 #[tactic(auto, using(crate::proofs::ControlSteps::pasts))]
 fn push_past(both: bool, end: u32, ops: &mut Seq<Op>) -> Result<(), Memory>
     ensures { OnOk result (ops.new ≡ ops.old ++ past_code both end) }
@@ -202,8 +203,8 @@ fn push_choice(choice: &Choice, end: u32, ops: &mut Seq<Op>) -> Result<(), Memor
     push_all(ops, &[Op::Jmp { a: end }])
 }
 
-/// Appends the turns of a loop, the code of which begins at `head`, where register 0 has its number: the number is compared
-/// before one is added to it, so that it never passes 2^32.
+/// Appends the turns of a loop, the code of which begins at `head`, where register 0 has its
+/// number: the number is compared before one is added to it, so that it never passes 2^32.
 #[tactic(auto, using(crate::proofs::ControlSteps::turns_are))]
 pub fn push_turns(
     point: u32,
@@ -235,8 +236,8 @@ pub fn push_turns(
     )
 }
 
-/// Appends what comes before the turns of a loop: the bounds go into its two locals, and where there is no turn it is left.
-/// The first bound stays in register 0.
+/// Appends what comes before the turns of a loop: the bounds go into its two locals, and where
+/// there is no turn it is left. The first bound stays in register 0.
 #[tactic(auto, using(crate::proofs::ControlSteps::bounds_are))]
 pub fn push_bounds(
     point: u32,

@@ -3,7 +3,8 @@ ghost use Rattle.std.specs.Prelude.{◌≡◌, ◌+◌, ◌<◌, ◌^◌, ◌++�
 ghost use Rattle.exchange_model.specs.declared.stmt.StmtKind.TheOpen as layer;
 ghost use Rattle.expr_code.specs.Code.{pointer_code};
 ghost use Rattle.stmt_code.specs.StmtCode.{field_store, range_code};
-ghost use Rattle.code_gen.specs.Settings.{IsFieldIn, IsIn, IsSetting, code_in, placed_of, places_in};
+ghost use Rattle.code_gen.specs.Settings.{IsFieldIn, IsIn, IsSetting, code_in, placed_of};
+ghost use Rattle.code_gen.specs.Settings.{places_in};
 
 use crate::lookup::width_of_field;
 use crate::setting::{Setting, Spot};
@@ -55,7 +56,8 @@ pub fn set_variable(
     push_all(ops, &[store])
 }
 
-/// A field gets a value: first the pointer is checked, and then whether the value fits the field's width.
+/// A field gets a value: first the pointer is checked, and then whether the value fits the field's
+/// width.
 #[tactic(auto, using(crate::proofs::Inside::set_field_value, crate::proofs::Inside::set_field_in, crate::proofs::DataSteps::set_field_is))]
 pub fn set_field(
     file: u32,
@@ -104,7 +106,8 @@ fn store_field(
     push_all(ops, &[write])
 }
 
-/// Appends what looks whether the value in the register `r` fits a width, which each value does from 32 bits on.
+/// Appends what looks whether the value in the register `r` fits a width, which each value does
+/// from 32 bits on.
 #[tactic(auto, using(crate::proofs::DataSteps::ranges))]
 fn push_range(r: u8, width: u8, ops: &mut Seq<Op>) -> Result<(), Memory>
     ensures { OnOk result (ops.new ≡ ops.old ++ range_code r width) }

@@ -1,4 +1,5 @@
-// Where labels and ENTERs stand in the texts, which blocks receive a signal, and how wide a variable is.
+// Where labels and ENTERs stand in the texts, which blocks receive a signal, and how wide a
+// variable is.
 ghost use Rattle.std.specs.Prelude.{◌≡◌, drop, slice_get, Some, None, MatchOption, false};
 ghost use Rattle.std.specs.Option.{option_map_or};
 ghost use Rattle.exchange_model.specs.declared.stmt.StmtKind.{out-StmtKind};

@@ -7,7 +7,8 @@ ghost use Rattle.store_layout.specs.Laid.{IsLayout};
 ghost use Rattle.machine_meaning.specs.Faithful.{Faithful};
 ghost use Rattle.stmt_code.specs.StmtCode.{codes, stmt_code};
 ghost use Rattle.stmt_code.specs.Whole.{code_upto, entry_addresses, whole_code};
-ghost use Rattle.code_gen.specs.Addresses.{addresses_by, addresses_from, enter_in, no_addresses, table_in};
+ghost use Rattle.code_gen.specs.Addresses.{addresses_by, addresses_from, enter_in, no_addresses};
+ghost use Rattle.code_gen.specs.Addresses.{table_in};
 ghost use Rattle.code_gen.specs.Settings.{AreIn, places_in};
 
 use crate::addresses::{Addresses, address_after};
@@ -21,8 +22,9 @@ use std::alloc::Global;
 use stmt_code::whole_code_is_faithful;
 use store_layout::Layout;
 
-/// The code of an exchange, which is faithful: the machine's run of a job leaves what the job means. Each of its operands is in
-/// its range. `Memory` comes where memory is refused, and where the code would have 2^32 instructions or more.
+/// The code of an exchange, which is faithful: the machine's run of a job leaves what the job
+/// means. Each of its operands is in its range. `Memory` comes where memory is refused, and where
+/// the code would have 2^32 instructions or more.
 pub fn compile(alloc: Global, exchange: &Exchange, layout: &Layout) -> Result<Code, Memory>
     requires { IsLayout exchange.now.blocks layout.now }
     ensures ops { IfOk result (λ code. code.ops ≡ whole_code exchange.now) }
@@ -42,7 +44,8 @@ pub fn compile(alloc: Global, exchange: &Exchange, layout: &Layout) -> Result<Co
     Ok(code)
 }
 
-/// The addresses of the places of all texts, which are those of the code that is made with none. That code is let go.
+/// The addresses of the places of all texts, which are those of the code that is made with none.
+/// That code is let go.
 fn addresses_of(alloc: Global, exchange: &Exchange, layout: &Layout) -> Result<Addresses, Memory>
     requires { IsLayout exchange.now.blocks layout.now }
     ensures { IfOk result
@@ -108,7 +111,8 @@ fn emit_blocks(
     })
 }
 
-/// Appends the code of a block's text and the end behind it, and gives the addresses of the text's places.
+/// Appends the code of a block's text and the end behind it, and gives the addresses of the text's
+/// places.
 #[tactic(auto, using(crate::proofs::PassSteps::text_begin, crate::proofs::PassSteps::text_code, crate::proofs::PassSteps::text_places))]
 fn emit_text(
     alloc: Global,

@@ -3,11 +3,13 @@ ghost use Rattle.std.specs.Prelude.{◌≡◌, ◌+◌, ◌∷◌, [], ◌++◌,
 ghost use Rattle.std.specs.List.{AllByRecursion};
 ghost use Rattle.machine_code.specs.declared.op.Op.TheVariants as op;
 ghost use Rattle.exchange_model.specs.declared.stmt.Receiver.TheVariants as receiver;
-ghost use Rattle.stmt_code.specs.StmtCode.{each_receiver, holder_code, look_first, receiver_code, values_code};
+ghost use Rattle.stmt_code.specs.StmtCode.{each_receiver, holder_code, look_first, receiver_code};
+ghost use Rattle.stmt_code.specs.StmtCode.{values_code};
 ghost use Rattle.stmt_code.specs.Whole.{receivers_from};
 ghost use Rattle.code_gen.specs.Choices.{choice_codes};
 ghost use Rattle.code_gen.specs.Receivers.{arm_code, arms, behind_arms, receiver_at};
-ghost use Rattle.code_gen.specs.Settings.{IsHolderIn, IsReachedIn, IsReceiverIn, IsValueIn, places_in};
+ghost use Rattle.code_gen.specs.Settings.{IsHolderIn, IsReachedIn, IsReceiverIn, IsValueIn};
+ghost use Rattle.code_gen.specs.Settings.{places_in};
 
 use crate::addresses::{address_after, address_between, address_plus};
 use crate::control::{Choice, Choices, push_choices};
@@ -102,7 +104,8 @@ fn push_direct(
     push_arm(block, delivery.arm, at, ops)
 }
 
-/// Values go to the block whose reference is held: that is looked at before the first of them is computed.
+/// Values go to the block whose reference is held: that is looked at before the first of them is
+/// computed.
 #[tactic(auto, using(crate::proofs::ReceiverSteps::held_is))]
 fn push_held(
     alloc: Global,
@@ -129,7 +132,8 @@ fn push_held(
     push_each(alloc, &receivers, delivery.arm, arms_at, at, ops)
 }
 
-/// The reference in register 0 is looked at before the first of these values, by code that begins at `start`.
+/// The reference in register 0 is looked at before the first of these values, by code that begins
+/// at `start`.
 #[tactic(auto, using(crate::proofs::ReceiverSteps::first_none, crate::proofs::ReceiverSteps::first_some))]
 fn push_look(
     alloc: Global,
@@ -162,7 +166,8 @@ fn push_holder(holder: Holder, at: &Setting<'_>, ops: &mut Seq<Op>) -> Result<()
     }
 }
 
-/// The reference in register 0 is compared with that of each receiver, by code that begins at `start`.
+/// The reference in register 0 is compared with that of each receiver, by code that begins at
+/// `start`.
 #[tactic(auto, using(crate::proofs::ReceiverSteps::each_is))]
 fn push_each(
     alloc: Global,

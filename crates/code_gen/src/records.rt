@@ -2,8 +2,10 @@
 ghost use Rattle.std.specs.Prelude.{◌≡◌, ◌+◌, ◌<◌, ◌^◌, ◌++◌, length, slice_get, OnOk};
 ghost use Rattle.exchange_model.specs.Cells.{record_cells};
 ghost use Rattle.exchange_model.specs.declared.stmt.StmtKind.TheOpen as layer;
-ghost use Rattle.stmt_code.specs.RecordCode.{for_first_code, free_code, free_search_code, inits_code, search_code, seize_code};
-ghost use Rattle.code_gen.specs.Settings.{IsFieldIn, IsIn, IsSetting, code_in, placed_of, places_in};
+ghost use Rattle.stmt_code.specs.RecordCode.{for_first_code, free_code, free_search_code};
+ghost use Rattle.stmt_code.specs.RecordCode.{inits_code, search_code, seize_code};
+ghost use Rattle.code_gen.specs.Settings.{IsFieldIn, IsIn, IsSetting, code_in, placed_of};
+ghost use Rattle.code_gen.specs.Settings.{places_in};
 
 use crate::addresses::{address_after, address_plus};
 use crate::data::{push_pointer, word_in};
@@ -16,7 +18,8 @@ use plex_num::{Memory, Seq};
 use std::alloc::Global;
 use stmt_code::{AGAIN_LENGTH, FOUND_LENGTH, LOOK_LENGTH};
 
-/// A temporary gets the least record whose field stands so to a value, and the text goes on at a label.
+/// A temporary gets the least record whose field stands so to a value, and the text goes on at a
+/// label.
 #[tactic(auto, using(crate::proofs::Inside::for_first_value, crate::proofs::Inside::for_first_field, crate::proofs::RecordSteps::for_first_is))]
 pub fn for_first(
     alloc: Global,
@@ -41,7 +44,8 @@ pub fn for_first(
     push_search(temp, file, field, rel, at.label(label), start, at, ops)
 }
 
-/// Appends the search, the code of which begins at `start`: register 0 has the value, and register 1 counts the records.
+/// Appends the search, the code of which begins at `start`: register 0 has the value, and register
+/// 1 counts the records.
 #[tactic(auto, using(crate::proofs::RecordSteps::searching, crate::proofs::Inside::in_file))]
 fn push_search(
     temp: u8,
@@ -110,7 +114,8 @@ fn push_search_in(
     )
 }
 
-/// The least free record is seized, and a temporary gets its number; where there is none, the text goes on at a label.
+/// The least free record is seized, and a temporary gets its number; where there is none, the text
+/// goes on at a label.
 #[tactic(auto, using(crate::proofs::Inside::in_setting, crate::proofs::RecordSteps::seize_is))]
 pub fn seize(
     temp: u8,
@@ -128,7 +133,8 @@ pub fn seize(
     push_seize(temp, file, at.label(label), start, at, ops)
 }
 
-/// Appends the search for a free record, the code of which begins at `start`, and how the record is seized.
+/// Appends the search for a free record, the code of which begins at `start`, and how the record is
+/// seized.
 #[tactic(auto, using(crate::proofs::RecordSteps::seizing))]
 fn push_seize(
     temp: u8,
@@ -157,7 +163,8 @@ fn mark_of(place: &FilePlace<'_>) -> u32
     place.first + place.file.fields.len() as u32
 }
 
-/// Appends the search through the marks of a file, the first of which stands at `mark`, and how a record is seized.
+/// Appends the search through the marks of a file, the first of which stands at `mark`, and how a
+/// record is seized.
 fn push_seize_in(
     temp: u8,
     file: u32,

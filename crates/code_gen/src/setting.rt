@@ -19,7 +19,8 @@ pub struct Setting<'a> {
     pub block: u32,
 }
 
-/// Where the code of a statement stands: the statement's point, the number of loops around it, and the code's address.
+/// Where the code of a statement stands: the statement's point, the number of loops around it, and
+/// the code's address.
 #[derive(Clone, Copy)]
 pub struct Spot {
     pub point: u32,

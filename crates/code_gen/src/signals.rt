@@ -3,7 +3,9 @@ ghost use Rattle.std.specs.Prelude.{◌≡◌, ◌≤◌, ◌∷◌, [], ◌++�
 ghost use Rattle.plex_limits.specs.declared.limits.TheConstants.{MOST_VALUES};
 ghost use Rattle.exchange_model.specs.declared.stmt.StmtKind.TheOpen as layer;
 ghost use Rattle.machine_code.specs.declared.op.Op.TheVariants as op;
-ghost use Rattle.stmt_code.specs.StmtCode.{count_in, level_number as number_of_level, queue_number as number_of_queue, retrieve_code, send_code};
+ghost use Rattle.stmt_code.specs.StmtCode.{count_in, level_number as number_of_level};
+ghost use Rattle.stmt_code.specs.StmtCode.{queue_number as number_of_queue, retrieve_code};
+ghost use Rattle.stmt_code.specs.StmtCode.{send_code};
 ghost use Rattle.code_gen.specs.Settings.{IsIn, code_in, places_in};
 
 use crate::addresses::address_plus;
@@ -16,7 +18,8 @@ use machine_code::Op;
 use plex_num::{Level, Memory, Seq};
 use std::alloc::Global;
 
-/// A signal is sent with values: to an entry, to a block in which the job goes on, or out of the exchange.
+/// A signal is sent with values: to an entry, to a block in which the job goes on, or out of the
+/// exchange.
 #[tactic(auto, using(crate::proofs::Inside::send_values, crate::proofs::Inside::send_reached, crate::proofs::SignalSteps::send_is))]
 pub fn send(
     alloc: Global,

@@ -1,4 +1,5 @@
-// How much of the code of an exchange stands again for each field of a file, or for each receiver of a signal.
+// How much of the code of an exchange stands again for each field of a file, or for each receiver
+// of a signal.
 ghost use Rattle.std.specs.Prelude.{◌≡◌, ◌+◌, ◌≤◌, ℕ, length, map, slice_get, IfOk};
 ghost use Rattle.exchange_model.specs.Cells.{marks};
 ghost use Rattle.exchange_model.specs.Inside.{total};
@@ -7,16 +8,17 @@ ghost use Rattle.stmt_code.specs.StmtCode.{each_receiver, look_first};
 ghost use Rattle.stmt_code.specs.RecordCode.{free_code};
 ghost use Rattle.stmt_code.specs.Whole.{receivers_from};
 ghost use Rattle.code_gen.specs.Receivers.{arm_code};
-ghost use Rattle.code_gen.specs.Unrolled.{choice_length, kind_unrolled, some_places, text_unrolled, unrolled_length, when_unrolled};
+ghost use Rattle.code_gen.specs.Unrolled.{choice_length, kind_unrolled, some_places, text_unrolled};
+ghost use Rattle.code_gen.specs.Unrolled.{unrolled_length, when_unrolled};
 
 use crate::receivers::{Arm, Delivery, receivers_of};
 use exchange_model::{Exchange, Receiver, SignalKind, Stmt, StmtKind, When};
 use plex_num::{Memory, Seq};
 use std::alloc::Global;
 
-/// How many instructions of the code of an exchange stand there again for each field of a file, or for each receiver of a signal: those of
-/// FREE, and those that choose a receiver whose reference is held. `Memory` comes where memory is refused, and where there would be 2^64
-/// of them or more.
+/// How many instructions of the code of an exchange stand there again for each field of a file, or
+/// for each receiver of a signal: those of FREE, and those that choose a receiver whose reference
+/// is held. `Memory` comes where memory is refused, and where there would be 2^64 of them or more.
 #[tactic(auto, using(crate::proofs::UnrolledSteps::sum_begin, crate::proofs::UnrolledSteps::sum_end))]
 pub fn unrolled_length(alloc: Global, exchange: &Exchange) -> Result<u64, Memory>
     ensures { IfOk result (λ n. n ≡ unrolled_length exchange.now) }
@@ -121,7 +123,8 @@ fn free_length(temp: u8, file: u32, exchange: &Exchange) -> Result<u64, Memory>
     Ok(5 + own_length(place.file.forlopp) + 2 * u64::from(fields))
 }
 
-/// How long the code is that asks whether the chain has a record: 1 for one of a forlopp file, else 0.
+/// How long the code is that asks whether the chain has a record: 1 for one of a forlopp file, else
+/// 0.
 fn own_length(forlopp: bool) -> u64
     ensures { result ≡ marks forlopp }
 {

@@ -1,5 +1,6 @@
 -- The text that lines are written to, read again.
-use Rattle.std.proofs.Common.{◌≡◌, ℕ, ◌≤◌, ◌<◌, ◌^◌, List, length, Ok, ap, sym, subst, ◌∙◌, arith, [], map, Option, Some, None}
+use Rattle.std.proofs.Common.{◌≡◌, ℕ, ◌≤◌, ◌<◌, ◌^◌, List, length, Ok, ap, sym, subst, ◌∙◌, arith}
+use Rattle.std.proofs.Common.{[], map, Option, Some, None}
 use Rattle.plex_limits.specs.declared.limits.TheConstants.{MOST_BYTES}
 use Rattle.exchange_model.specs.declared.exchange.Exchange.{Exchange}
 use Rattle.signal_file.specs.declared.line.Line.{Line}
@@ -60,7 +61,12 @@ has_table x lines name files all e = let a = gone_on (text_at name files) (merge
     by None e = absurd (none-some all (ap result_ok e))
     by (Some text) e =
         let p = gone_on (or_refused table_refusal (table_periods x (length lines) text)) (λ periods. Ok (merged lines periods)) all e in
-        record { text = text; periods = p.0; are = read table_refusal (table_periods x (length lines) text) p.0 p.1; merge = same_Some (merged lines p.0) all (ap result_ok p.2) }
+        record {
+          text = text;
+          periods = p.0;
+          are = read table_refusal (table_periods x (length lines) text) p.0 p.1;
+          merge = same_Some (merged lines p.0) all (ap result_ok p.2);
+        }
 
 -- what is written out is read again
 read_again : (x : Exchange) (lines all : List Line) → IsAccepted x → HasLines x lines → HasTable x lines all → signal_lines x (written_out x all) ≡ Ok all
@@ -71,30 +77,41 @@ read_again x lines all a l t =
     let few : line_count lines t.periods < 2 ^ 32 = table_few x lines t.text t.periods (sym t.are) short in
     let fewer : length (merged lines t.periods) < 2 ^ 32 = omega (arith, many, few) in
     subst (λ ls. signal_lines x (written_out x ls) ≡ Ok ls) t.merge
-    (written_read x (merged lines t.periods) a.kept a.words (merged_fit x l.text t.text lines t.periods l.are t.are) (numbered_are (number_in sorted) 1 sorted) (merged_small x l.text t.text lines t.periods l.are t.are) fewer)
+    (written_read x (merged lines t.periods) a.kept a.words (merged_fit x l.text t.text lines t.periods l.are t.are)
+    (numbered_are (number_in sorted) 1 sorted) (merged_small x l.text t.text lines t.periods l.are t.are) fewer)
 
 -- the lines of a file that has the text of these
-lines_again : (x : Exchange) (name : Word) (others : Files) (all : List Line) → others name ≡ Some (written_out x all) → length (written_out x all) ≤ MOST_BYTES → signal_lines x (written_out x all) ≡ Ok all → lines_at x name others ≡ Ok all
+lines_again : (x : Exchange) (name : Word) (others : Files) (all : List Line) → others name ≡ Some (written_out x all)
+    → length (written_out x all) ≤ MOST_BYTES → signal_lines x (written_out x all) ≡ Ok all
+    → lines_at x name others ≡ Ok all
 lines_again x name others all held short are =
     ap (λ o. goes_on (text_of_file o) (λ text. lines_of_file x text)) held
     ∙ ap (λ (o : Option (List ℕ)). lines_of_file x o) (sym (is_fitting (written_out x all) short))
     ∙ ap (or_refused signals_refusal) are
 
-pub lines_of_text : (name : Word) (files : Files) (x : Exchange) (lines : List Line) → exchange_at name files ≡ Ok x → LinesFit x [] (map coming_of lines) → AreNumberedFrom 1 lines
+pub lines_of_text : (name : Word) (files : Files) (x : Exchange) (lines : List Line) → exchange_at name files ≡ Ok x
+    → LinesFit x [] (map coming_of lines) → AreNumberedFrom 1 lines
     → AllByRecursion (λ (l : Line). l.after < 2 ^ 32) lines → length lines < 2 ^ 32 → signal_lines x (written_out x lines) ≡ Ok lines
 lines_of_text name files x lines is fit numbers small few = let a = accepted First name files x is in written_read x lines a.kept a.words fit numbers small few
 
-pub merged_again : (w : TimedWords) (files : Files) (x : Exchange) (lines all : List Line) → exchange_at w.run.exchange files ≡ Ok x → lines_at x w.run.signals files ≡ Ok lines → merged_at x lines w.table files ≡ Ok all → signal_lines x (written_out x all) ≡ Ok all
-merged_again w files x lines all is reads merges_to = read_again x lines all (accepted First w.run.exchange files x is) (has_lines x w.run.signals files lines reads) (has_table x lines w.table files all merges_to)
+pub merged_again : (w : TimedWords) (files : Files) (x : Exchange) (lines all : List Line)
+    → exchange_at w.run.exchange files ≡ Ok x → lines_at x w.run.signals files ≡ Ok lines
+    → merged_at x lines w.table files ≡ Ok all → signal_lines x (written_out x all) ≡ Ok all
+merged_again w files x lines all is reads merges_to = read_again x lines all (accepted First w.run.exchange files x is)
+    (has_lines x w.run.signals files lines reads) (has_table x lines w.table files all merges_to)
 
-pub timed_is_run : (w : TimedWords) (files others : Files) (name : Word) (x : Exchange) (lines all : List Line) → exchange_at w.run.exchange files ≡ Ok x → lines_at x w.run.signals files ≡ Ok lines → merged_at x lines w.table files ≡ Ok all
-    → exchange_at w.run.exchange others ≡ Ok x → others name ≡ Some (written_out x all) → length (written_out x all) ≤ MOST_BYTES → run_of (record w.run { signals = name }) others ≡ timed_of w files
+pub timed_is_run : (w : TimedWords) (files others : Files) (name : Word) (x : Exchange) (lines all : List Line)
+    → exchange_at w.run.exchange files ≡ Ok x → lines_at x w.run.signals files ≡ Ok lines
+    → merged_at x lines w.table files ≡ Ok all
+    → exchange_at w.run.exchange others ≡ Ok x → others name ≡ Some (written_out x all)
+    → length (written_out x all) ≤ MOST_BYTES → run_of (record w.run { signals = name }) others ≡ timed_of w files
 timed_is_run w files others name x lines all is reads merges_to again held short =
     let are = merged_again w files x lines all is reads merges_to in
     let there : lines_at x name others ≡ Ok all = lines_again x name others all held short are in
     ap (λ o. goes_on o (λ y. goes_on (lines_at y name others) (λ ls. Ok (run_answer y ls w.run.bounds.jobs)))) again
     ∙ ap (λ o. goes_on o (λ ls. Ok (run_answer x ls w.run.bounds.jobs))) there
     ∙ sym (
-    ap (λ o. goes_on o (λ y. goes_on (lines_at y w.run.signals files) (λ ls. goes_on (merged_at y ls w.table files) (λ all. Ok (run_answer y all w.run.bounds.jobs))))) is
+    ap (λ o. goes_on o (λ y. goes_on (lines_at y w.run.signals files)
+    (λ ls. goes_on (merged_at y ls w.table files) (λ all. Ok (run_answer y all w.run.bounds.jobs))))) is
     ∙ ap (λ o. goes_on o (λ ls. goes_on (merged_at x ls w.table files) (λ all. Ok (run_answer x all w.run.bounds.jobs)))) reads
     ∙ ap (λ o. goes_on o (λ all. Ok (run_answer x all w.run.bounds.jobs))) merges_to)

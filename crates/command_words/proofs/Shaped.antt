@@ -1,9 +1,12 @@
 -- Words that have a shape are read as its command, and words that are read have its shape.
-use Rattle.std.proofs.Common.{◌≡◌, ◌↔◌, inl, inr, ℕ, suc, ◌+◌, ◌≤◌, Bool, true, false, ◌&&◌, nat_eq, nat_le, List, [], ◌∷◌, length, Option, Some, None, refl, sym, ap, ◌∙◌, subst, arith}
+use Rattle.std.proofs.Common.{◌≡◌, ◌↔◌, inl, inr, ℕ, suc, ◌+◌, ◌≤◌, Bool, true, false, ◌&&◌, nat_eq}
+use Rattle.std.proofs.Common.{nat_le, List, [], ◌∷◌, length, Option, Some, None, refl, sym, ap, ◌∙◌}
+use Rattle.std.proofs.Common.{subst, arith}
 use Rattle.std.specs.Option.{option_map, unwrap_or}
 use Rattle.std.specs.Prelude.{codes, if◌then◌else◌}
 use Rattle.std.specs.Str.{bytes_eq}
-use Rattle.std.proofs.lemmas.Bool.{and_from, and_parts, cases_Bool, cond-false, cond-true, eq-eqb, eqb-true, le-leb, leb-true}
+use Rattle.std.proofs.lemmas.Bool.{and_from, and_parts, cases_Bool, cond-false, cond-true, eq-eqb}
+use Rattle.std.proofs.lemmas.Bool.{eqb-true, le-leb, leb-true}
 use Rattle.std.proofs.lemmas.Option.{none-some, same_Some}
 use Rattle.std.proofs.lemmas.Slice.Eq.{bytes_eq-Decides}
 use Rattle.plex_limits.specs.declared.limits.TheConstants.{MOST_JOBS, MOST_WORKERS}
@@ -12,12 +15,20 @@ use Rattle.command_words.specs.declared.command.TheConstants.{MOST_CALLS, USUAL_
 use Rattle.command_words.specs.declared.command.Bounds.{Bounds}
 use Rattle.command_words.specs.declared.command.ChangeWords.{ChangeWords}
 use Rattle.command_words.specs.declared.command.Command.{Command}
-use Rattle.command_words.specs.declared.command.Command.TheVariants.{Run, Single, Analyse, Certify, List as Listing, Load, Timed, Change, Trace}
+use Rattle.command_words.specs.declared.command.Command.TheVariants.{Run, Single, Analyse, Certify}
+use Rattle.command_words.specs.declared.command.Command.TheVariants.{List as Listing, Load, Timed}
+use Rattle.command_words.specs.declared.command.Command.TheVariants.{Change, Trace}
 use Rattle.command_words.specs.declared.command.RunWords.{RunWords}
-use Rattle.command_words.specs.Shapes.{AreOptions, AreReadAs, IsCount, IsShape, or_usual_jobs, or_usual_workers, run_of}
+use Rattle.command_words.specs.Shapes.{AreOptions, AreReadAs, IsCount, IsShape, or_usual_jobs}
+use Rattle.command_words.specs.Shapes.{or_usual_workers, run_of}
 use Rattle.command_words.specs.Shapes.AreOptions.{NoOptions, TellCertificate, TellJobs, TellWorkers}
-use Rattle.command_words.specs.Shapes.IsShape.{Analyses, Certifies, Changes, Lists, Loads, Runs, RunsBySource, RunsTimed, Traces}
-use Rattle.command_words.specs.Words.{Word, allowed_calls, allowed_jobs, allowed_workers, both_bounds, bounded_run, bounds_beside, calls_in, change_at, change_words, jobs_beside, jobs_told, only_word, run_words, shape, single_run, single_words, timed_words, trace_words, value_of, words_of, workers_told}
+use Rattle.command_words.specs.Shapes.IsShape.{Analyses, Certifies, Changes, Lists, Loads, Runs}
+use Rattle.command_words.specs.Shapes.IsShape.{RunsBySource, RunsTimed, Traces}
+use Rattle.command_words.specs.Words.{Word, allowed_calls, allowed_jobs, allowed_workers}
+use Rattle.command_words.specs.Words.{both_bounds, bounded_run, bounds_beside, calls_in, change_at}
+use Rattle.command_words.specs.Words.{change_words, jobs_beside, jobs_told, only_word, run_words}
+use Rattle.command_words.specs.Words.{shape, single_run, single_words, timed_words, trace_words}
+use Rattle.command_words.specs.Words.{value_of, words_of, workers_told}
 
 -- ---- numbers
 
@@ -32,7 +43,8 @@ tested : {A : Type 0} (t : Bool) (x : Option A) (y : A) → (if t then x else No
 tested true x y is = (refl, is)
 tested false x y is = absurd (none-some y is)
 
--- one of the three numbers with a range: what is none is not allowed, and a number is where it is within
+-- one of the three numbers with a range: what is none is not allowed, and a number is where it is
+-- within
 module _ (most : ℕ) (allowed : Option ℕ → Option ℕ) (no_number : allowed None ≡ None) (in_range : (n : ℕ) → allowed (Some n) ≡ within most n) where
   count_read : (value : Word) (n : ℕ) → IsCount most value n → allowed (number_of value) ≡ Some n
   count_read value n count = ap allowed count.number ∙ in_range n ∙ within_is most n count.some count.few
@@ -72,7 +84,11 @@ record HasTold (most usual : ℕ) (o : Option Word) (n : ℕ) : Type 0 where
 
 workers_from : (o : Option Word) (n : ℕ) → workers_told o ≡ Some n → HasTold MOST_WORKERS USUAL_WORKERS o n
 workers_from None n is = record { told = None; tells = Nothing; is = same_Some USUAL_WORKERS n is }
-workers_from (Some v) n is = record { told = Some n; tells = Amount v n (count_from MOST_WORKERS allowed_workers refl (λ m. refl) v n (number_of v) refl is); is = refl }
+workers_from (Some v) n is = record {
+  told = Some n;
+  tells = Amount v n (count_from MOST_WORKERS allowed_workers refl (λ m. refl) v n (number_of v) refl is);
+  is = refl;
+}
 
 jobs_from : (o : Option Word) (n : ℕ) → jobs_told o ≡ Some n → HasTold MOST_JOBS USUAL_JOBS o n
 jobs_from None n is = record { told = None; tells = Nothing; is = same_Some USUAL_JOBS n is }
@@ -144,7 +160,8 @@ which n = elim (cases_Bool (bytes_eq n for_workers)) [
 value_other : (name n v : Word) (rest : List Word) → bytes_eq n name ≡ false → value_of name (n ∷ v ∷ rest) ≡ value_of name rest
 value_other name n v rest differs = cond-false (bytes_eq n name) (Some v) (value_of name rest) differs
 
-used_other : (n v : Word) (rest : List Word) → bytes_eq n for_workers ≡ false → bytes_eq n for_jobs ≡ false → bytes_eq n for_certificate ≡ false → used (n ∷ v ∷ rest) ≡ used rest
+used_other : (n v : Word) (rest : List Word) → bytes_eq n for_workers ≡ false → bytes_eq n for_jobs ≡ false
+    → bytes_eq n for_certificate ≡ false → used (n ∷ v ∷ rest) ≡ used rest
 used_other n v rest differs no2 no3 =
     let w = value_other for_workers n v rest differs in
     let j = value_other for_jobs n v rest no2 in
@@ -159,7 +176,8 @@ used_at v rest ForJobs le =
     let most : words_of (value_of for_workers rest) + 2 + words_of (value_of for_certificate rest) ≤ suc (suc (length rest)) = omega (arith, le) in most
 used_at v rest ForCertificate le =
     let most : words_of (value_of for_workers rest) + words_of (value_of for_jobs rest) + 2 ≤ suc (suc (length rest)) = omega (arith, le) in most
-used_at v rest (Other n differs no2 no3) le = let e = used_other n v rest differs no2 no3 in subst (λ (u : ℕ). u ≤ suc (suc (length rest))) (sym e) (omega (arith, le))
+used_at v rest (Other n differs no2 no3) le = let e = used_other n v rest differs no2 no3 in subst
+    (λ (u : ℕ). u ≤ suc (suc (length rest))) (sym e) (omega (arith, le))
 
 used_within : (ws : List Word) → used ws ≤ length ws
 used_within [] = omega arith
@@ -176,28 +194,35 @@ tells_none most o differs = subst (λ q. Tells most q None) (sym (none_of o diff
 
 -- words that are all those of the three options are options
 abbrev AreGiven : List Word → Type 0
-AreGiven ws = (w j : Option ℕ) → length ws ≡ used ws → Tells MOST_WORKERS (value_of for_workers ws) w → Tells MOST_JOBS (value_of for_jobs ws) j → AreOptions ws w j (value_of for_certificate ws)
+AreGiven ws = (w j : Option ℕ) → length ws ≡ used ws → Tells MOST_WORKERS (value_of for_workers ws) w
+    → Tells MOST_JOBS (value_of for_jobs ws) j → AreOptions ws w j (value_of for_certificate ws)
 
-given_workers : {w : Option ℕ} (v : Word) (rest : List Word) (j : Option ℕ) → AreGiven rest → suc (suc (length rest)) ≡ 2 + words_of (value_of for_jobs rest) + words_of (value_of for_certificate rest)
+given_workers : {w : Option ℕ} (v : Word) (rest : List Word) (j : Option ℕ) → AreGiven rest
+    → suc (suc (length rest)) ≡ 2 + words_of (value_of for_jobs rest) + words_of (value_of for_certificate rest)
     → Tells MOST_WORKERS (Some v) w → Tells MOST_JOBS (value_of for_jobs rest) j → AreOptions (for_workers ∷ v ∷ rest) w j (value_of for_certificate rest)
 given_workers v rest j given whole (Amount value n count) jobs =
     let le = used_within rest in
     let none : words_of (value_of for_workers rest) ≡ 0 = omega (arith, le, whole) in
-    TellWorkers v n rest j (value_of for_certificate rest) count (given None j (omega (arith, none, whole)) (tells_none MOST_WORKERS (value_of for_workers rest) none) jobs)
+    TellWorkers v n rest j (value_of for_certificate rest) count
+    (given None j (omega (arith, none, whole)) (tells_none MOST_WORKERS (value_of for_workers rest) none) jobs)
 
-given_jobs : {j : Option ℕ} (v : Word) (rest : List Word) (w : Option ℕ) → AreGiven rest → suc (suc (length rest)) ≡ words_of (value_of for_workers rest) + 2 + words_of (value_of for_certificate rest)
+given_jobs : {j : Option ℕ} (v : Word) (rest : List Word) (w : Option ℕ) → AreGiven rest
+    → suc (suc (length rest)) ≡ words_of (value_of for_workers rest) + 2 + words_of (value_of for_certificate rest)
     → Tells MOST_WORKERS (value_of for_workers rest) w → Tells MOST_JOBS (Some v) j → AreOptions (for_jobs ∷ v ∷ rest) w j (value_of for_certificate rest)
 given_jobs v rest w given whole workers (Amount value n count) =
     let le = used_within rest in
     let none : words_of (value_of for_jobs rest) ≡ 0 = omega (arith, le, whole) in
-    TellJobs v n rest w (value_of for_certificate rest) count (given w None (omega (arith, none, whole)) workers (tells_none MOST_JOBS (value_of for_jobs rest) none))
+    TellJobs v n rest w (value_of for_certificate rest) count
+    (given w None (omega (arith, none, whole)) workers (tells_none MOST_JOBS (value_of for_jobs rest) none))
 
-given_certificate : (v : Word) (rest : List Word) (w j : Option ℕ) → AreGiven rest → suc (suc (length rest)) ≡ words_of (value_of for_workers rest) + words_of (value_of for_jobs rest) + 2
+given_certificate : (v : Word) (rest : List Word) (w j : Option ℕ) → AreGiven rest
+    → suc (suc (length rest)) ≡ words_of (value_of for_workers rest) + words_of (value_of for_jobs rest) + 2
     → Tells MOST_WORKERS (value_of for_workers rest) w → Tells MOST_JOBS (value_of for_jobs rest) j → AreOptions (for_certificate ∷ v ∷ rest) w j (Some v)
 given_certificate v rest w j given whole workers jobs =
     let le = used_within rest in
     let none : words_of (value_of for_certificate rest) ≡ 0 = omega (arith, le, whole) in
-    TellCertificate v rest w j (subst (AreOptions rest w j) (none_of (value_of for_certificate rest) none) (given w j (omega (arith, none, whole)) workers jobs))
+    TellCertificate v rest w j (subst (AreOptions rest w j) (none_of (value_of for_certificate rest) none)
+    (given w j (omega (arith, none, whole)) workers jobs))
 
 given_at : {n : Word} (v : Word) (rest : List Word) → Named n → AreGiven rest → AreGiven (n ∷ v ∷ rest)
 given_at v rest ForWorkers given w j whole workers jobs = given_workers v rest j given whole workers jobs
@@ -233,17 +258,22 @@ both_from (Some w) None b is = absurd (none-some b is)
 both_from (Some w) (Some j) b is =
     let same = same_Some (record { workers = w; jobs = j }) b is in (ap (λ (q : Bounds). Some q.workers) same, ap (λ (q : Bounds). Some q.jobs) same)
 
-run_read : {w j : Option ℕ} {c : Option Word} {options : List Word} (e s : Word) → AreOptions options w j c → bounded_run e s options c ≡ Some (run_of e s (or_usual_workers w) (or_usual_jobs j) c)
+run_read : {w j : Option ℕ} {c : Option Word} {options : List Word} (e s : Word) → AreOptions options w j c
+    → bounded_run e s options c ≡ Some (run_of e s (or_usual_workers w) (or_usual_jobs j) c)
 run_read {w} {j} {c} {options} e s given =
     let r = reads given in
     let workers : Option Word = value_of for_workers options in
     let limit : Option Word = value_of for_jobs options in
-    let whole : length options ≡ words_of workers + words_of limit + words_of c = r.whole ∙ ap (λ q. words_of workers + words_of limit + words_of q) r.certificate in
-    ap (λ t. option_map (λ (b : Bounds). run_of e s b.workers b.jobs c) (if t then both_bounds (workers_told workers) (jobs_told limit) else None)) (eq-eqb (length options) (words_of workers + words_of limit + words_of c) whole)
+    let whole : length options ≡ words_of workers + words_of limit + words_of c =
+    r.whole ∙ ap (λ q. words_of workers + words_of limit + words_of q) r.certificate in
+    ap (λ t. option_map (λ (b : Bounds). run_of e s b.workers b.jobs c)
+    (if t then both_bounds (workers_told workers) (jobs_told limit) else None))
+    (eq-eqb (length options) (words_of workers + words_of limit + words_of c) whole)
     ∙ ap (λ q. option_map (λ (b : Bounds). run_of e s b.workers b.jobs c) (both_bounds q (jobs_told limit))) (workers_are r.workers)
     ∙ ap (λ q. option_map (λ (b : Bounds). run_of e s b.workers b.jobs c) (both_bounds (Some (or_usual_workers w)) q)) (jobs_are r.jobs)
 
-single_read : {j : Option ℕ} {options : List Word} (e s : Word) → AreOptions options None j None → single_run e s options ≡ Some (run_of e s 1 (or_usual_jobs j) None)
+single_read : {j : Option ℕ} {options : List Word} (e s : Word) → AreOptions options None j None
+    → single_run e s options ≡ Some (run_of e s 1 (or_usual_jobs j) None)
 single_read {j} {options} e s given =
     let r = reads given in
     let limit : Option Word = value_of for_jobs options in
@@ -261,13 +291,17 @@ record Ran (e s : Word) (options : List Word) (c : Option Word) (run : RunWords)
   given : AreOptions options w j c
   is : run_of e s (or_usual_workers w) (or_usual_jobs j) c ≡ run
 
-run_from : (e s : Word) (options : List Word) (c : Option Word) (run : RunWords) → (words_of (value_of for_certificate options) ≤ words_of c → value_of for_certificate options ≡ c) → bounded_run e s options c ≡ Some run → Ran e s options c run
+run_from : (e s : Word) (options : List Word) (c : Option Word) (run : RunWords)
+    → (words_of (value_of for_certificate options) ≤ words_of c → value_of for_certificate options ≡ c)
+    → bounded_run e s options c ≡ Some run → Ran e s options c run
 run_from e s options c run same is =
     let workers : Option Word = value_of for_workers options in
     let limit : Option Word = value_of for_jobs options in
     let m = mapped (λ (b : Bounds). run_of e s b.workers b.jobs c) (bounds_beside options workers limit c) run is in
-    let test = tested (nat_eq (length options) (words_of workers + words_of limit + words_of c)) (both_bounds (workers_told workers) (jobs_told limit)) m.value m.there in
-    let whole : length options ≡ words_of workers + words_of limit + words_of c = eqb-true (length options) (words_of workers + words_of limit + words_of c) test.0 in
+    let test = tested (nat_eq (length options) (words_of workers + words_of limit + words_of c))
+    (both_bounds (workers_told workers) (jobs_told limit)) m.value m.there in
+    let whole : length options ≡ words_of workers + words_of limit + words_of c =
+    eqb-true (length options) (words_of workers + words_of limit + words_of c) test.0 in
     let both = both_from (workers_told workers) (jobs_told limit) m.value test.1 in
     let w = workers_from workers m.value.workers both.0 in
     let j = jobs_from limit m.value.jobs both.1 in
@@ -311,13 +345,15 @@ no_certificate o le = none_of o (omega (arith, le))
 -- ---- commands
 
 shape_read : {words : List Word} {c : Command} → IsShape words c → shape words ≡ Some c
-shape_read (Runs e s options w j c given) = ap (λ q. option_map Run (bounded_run e s options q)) (reads given).certificate ∙ ap (option_map Run) (run_read e s given)
+shape_read (Runs e s options w j c given) = ap (λ q. option_map Run (bounded_run e s options q))
+    (reads given).certificate ∙ ap (option_map Run) (run_read e s given)
 shape_read (RunsBySource e s options j given) = ap (option_map Single) (single_read e s given)
 shape_read (Analyses e) = refl
 shape_read (Certifies e) = refl
 shape_read (Lists e) = refl
 shape_read (Loads value n count) = ap (option_map Load) (count_read MOST_CALLS allowed_calls refl (λ m. refl) value n count)
-shape_read (RunsTimed e s t options w j given) = ap (λ o. option_map Timed (option_map (λ (r : RunWords). record { run = r; table = t }) o)) (run_read e s given)
+shape_read (RunsTimed e s t options w j given) = ap
+    (λ o. option_map Timed (option_map (λ (r : RunWords). record { run = r; table = t }) o)) (run_read e s given)
 shape_read (Changes e s new k at options w j count given) =
     ap (λ o. option_map Change (change_at new o (bounded_run e s options None))) (count_read MOST_JOBS allowed_jobs refl (λ m. refl) k at count)
     ∙ ap (λ o. option_map Change (change_at new (Some at) o)) (run_read e s given)
@@ -340,7 +376,8 @@ of_single (e ∷ s ∷ options) c is =
     subst (IsShape (codes "single" ∷ e ∷ s ∷ options)) (ap Single r.is ∙ m.is) (RunsBySource e s options r.j r.given)
 
 -- a command of one file
-of_one : (name : Word) (make : Word → Command) → ((w : Word) → IsShape (name ∷ w ∷ []) (make w)) → (rest : List Word) (c : Command) → option_map make (only_word rest) ≡ Some c → IsShape (name ∷ rest) c
+of_one : (name : Word) (make : Word → Command) → ((w : Word) → IsShape (name ∷ w ∷ []) (make w))
+    → (rest : List Word) (c : Command) → option_map make (only_word rest) ≡ Some c → IsShape (name ∷ rest) c
 of_one name make shaped [] c is = absurd (none-some c is)
 of_one name make shaped (w ∷ []) c is = subst (IsShape (name ∷ w ∷ [])) (same_Some (make w) c is) (shaped w)
 of_one name make shaped (w ∷ more ∷ rest) c is = absurd (none-some c is)
@@ -360,7 +397,9 @@ of_timed (e ∷ s ∷ t ∷ options) c is =
     let m = mapped Timed (timed_words (e ∷ s ∷ t ∷ options)) c is in
     let n = mapped (λ (r : RunWords). record { run = r; table = t }) (bounded_run e s options None) m.value m.there in
     let r = run_from e s options None n.value (no_certificate (value_of for_certificate options)) n.there in
-    subst (IsShape (codes "timed" ∷ e ∷ s ∷ t ∷ options)) (ap (λ (q : RunWords). Timed (record { run = q; table = t })) r.is ∙ ap Timed n.is ∙ m.is) (RunsTimed e s t options r.w r.j r.given)
+    subst (IsShape (codes "timed" ∷ e ∷ s ∷ t ∷ options))
+    (ap (λ (q : RunWords). Timed (record { run = q; table = t })) r.is ∙ ap Timed n.is ∙ m.is)
+    (RunsTimed e s t options r.w r.j r.given)
 
 -- a change that was read
 record Changed (new : Word) (o : Option ℕ) (run : Option RunWords) (w : ChangeWords) : Type 0 where
@@ -384,7 +423,8 @@ of_change (e ∷ s ∷ n ∷ k ∷ options) c is =
     let m = mapped Change (change_words (e ∷ s ∷ n ∷ k ∷ options)) c is in
     let g = changed n (allowed_jobs (number_of k)) (bounded_run e s options None) m.value m.there in
     let r = run_from e s options None g.run_words (no_certificate (value_of for_certificate options)) g.there in
-    subst (IsShape (codes "change" ∷ e ∷ s ∷ n ∷ k ∷ options)) (ap (λ (q : RunWords). Change (record { run = q; new = n; at = g.at })) r.is ∙ ap Change g.is ∙ m.is)
+    subst (IsShape (codes "change" ∷ e ∷ s ∷ n ∷ k ∷ options))
+    (ap (λ (q : RunWords). Change (record { run = q; new = n; at = g.at })) r.is ∙ ap Change g.is ∙ m.is)
     (Changes e s n k g.at options r.w r.j (count_from MOST_JOBS allowed_jobs refl (λ l. refl) k g.at (number_of k) refl g.told) r.given)
 
 of_trace : (rest : List Word) (c : Command) → option_map Trace (trace_words rest) ≡ Some c → IsShape (codes "trace" ∷ rest) c
@@ -395,10 +435,13 @@ of_trace (e ∷ s ∷ q ∷ options) c is =
     let m = mapped Trace (trace_words (e ∷ s ∷ q ∷ options)) c is in
     let n = mapped (λ (r : RunWords). record { run = r; filter = q }) (single_run e s options) m.value m.there in
     let r = single_from e s options n.value n.there in
-    subst (IsShape (codes "trace" ∷ e ∷ s ∷ q ∷ options)) (ap (λ (p : RunWords). Trace (record { run = p; filter = q })) r.is ∙ ap Trace n.is ∙ m.is) (Traces e s q options r.j r.given)
+    subst (IsShape (codes "trace" ∷ e ∷ s ∷ q ∷ options))
+    (ap (λ (p : RunWords). Trace (record { run = p; filter = q })) r.is ∙ ap Trace n.is ∙ m.is)
+    (Traces e s q options r.j r.given)
 
 -- the command of this name, or another one
-named : (name text : Word) (rest : List Word) (c : Command) (x y : Option Command) → (x ≡ Some c → IsShape (text ∷ rest) c) → (y ≡ Some c → IsShape (name ∷ rest) c)
+named : (name text : Word) (rest : List Word) (c : Command) (x y : Option Command)
+    → (x ≡ Some c → IsShape (text ∷ rest) c) → (y ≡ Some c → IsShape (name ∷ rest) c)
     → (if bytes_eq name text then x else y) ≡ Some c → IsShape (name ∷ rest) c
 named name text rest c x y here other is = elim (cases_Bool (bytes_eq name text)) [
   | inl same ↦ subst (λ n. IsShape (n ∷ rest) c) (sym ((bytes_eq-Decides name text).0 same)) (here (sym (cond-true (bytes_eq name text) x y same) ∙ is))

@@ -4,7 +4,9 @@ use Rattle.plex_limits.specs.declared.limits.TheConstants.{MOST_JOBS, MOST_WORKE
 use Rattle.command_words.specs.declared.command.Bounds.{Bounds}
 use Rattle.command_words.specs.declared.command.RunWords.{RunWords}
 use Rattle.command_words.specs.declared.command.Command.{Command}
-use Rattle.command_words.specs.declared.command.Command.TheVariants.{Run, Single, Analyse, Certify, List as Listing, Load, Timed, Change, Trace}
+use Rattle.command_words.specs.declared.command.Command.TheVariants.{Run, Single, Analyse, Certify}
+use Rattle.command_words.specs.declared.command.Command.TheVariants.{List as Listing, Load, Timed}
+use Rattle.command_words.specs.declared.command.Command.TheVariants.{Change, Trace}
 
 -- from 1 to 64 workers
 pub record AreWorkers (n : ℕ) : Type 0 where

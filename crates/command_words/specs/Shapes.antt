@@ -1,7 +1,8 @@
 -- The shapes of commands: which words are a command, and what it asks for.
 --
 -- A command begins with its name; behind it stand its files and numbers, each at its place, and
--- behind these options in any order, each at most once. What has none of these shapes is no command.
+-- behind these options in any order, each at most once. What has none of these shapes is no
+-- command.
 use Rattle.std.specs.Prelude.{◌≡◌, ◌≤◌, ◌↔◌, ℕ, List, [], ◌∷◌, Option, Some, None, codes}
 use Rattle.std.specs.Option.{unwrap_or}
 use Rattle.plex_limits.specs.declared.limits.TheConstants.{MOST_JOBS, MOST_WORKERS}

@@ -1,5 +1,6 @@
 -- What the words of the command ask for.
-use Rattle.std.specs.Prelude.{ℕ, ◌+◌, nat_eq, nat_le, ◌&&◌, List, [], ◌∷◌, length, Option, Some, None, if◌then◌else◌, codes}
+use Rattle.std.specs.Prelude.{ℕ, ◌+◌, nat_eq, nat_le, ◌&&◌, List, [], ◌∷◌, length, Option, Some}
+use Rattle.std.specs.Prelude.{None, if◌then◌else◌, codes}
 use Rattle.std.specs.Option.{option_map}
 use Rattle.std.specs.Str.{bytes_eq}
 use Rattle.plex_limits.specs.declared.limits.TheConstants.{MOST_JOBS, MOST_WORKERS}
@@ -7,7 +8,9 @@ use Rattle.plex_num.specs.Number.{number_of}
 use Rattle.command_words.specs.declared.command.TheConstants.{MOST_CALLS, USUAL_JOBS, USUAL_WORKERS}
 use Rattle.command_words.specs.declared.command.Bounds.{Bounds}
 use Rattle.command_words.specs.declared.command.Command.{Command}
-use Rattle.command_words.specs.declared.command.Command.TheVariants.{Run, Single, Analyse, Certify, List as Listing, Load, Timed, Change, Trace}
+use Rattle.command_words.specs.declared.command.Command.TheVariants.{Run, Single, Analyse, Certify}
+use Rattle.command_words.specs.declared.command.Command.TheVariants.{List as Listing, Load, Timed}
+use Rattle.command_words.specs.declared.command.Command.TheVariants.{Change, Trace}
 use Rattle.command_words.specs.declared.command.ChangeWords.{ChangeWords}
 use Rattle.command_words.specs.declared.command.RunWords.{RunWords}
 use Rattle.command_words.specs.declared.command.TimedWords.{TimedWords}
@@ -56,18 +59,26 @@ both_bounds None jobs = None
 both_bounds (Some workers) None = None
 both_bounds (Some workers) (Some jobs) = Some (record { workers = workers; jobs = jobs })
 
--- how many workers the run has and after how many jobs it ends, of options that are these three, in whichever order, and no others:
--- their words are as many as those of the three
+-- how many workers the run has and after how many jobs it ends, of options that are these three, in
+-- whichever order, and no others: their words are as many as those of the three
 abbrev pub bounds_beside : List Word → Option Word → Option Word → Option Word → Option Bounds
 bounds_beside options workers limit certificate =
     (if nat_eq (length options) (words_of workers + words_of limit + words_of certificate)
     then both_bounds (workers_told workers) (jobs_told limit) else None)
 
--- a run of these files with this certificate or without one, of options that are its workers, its limit of jobs and the certificate
-abbrev pub bounded_run : (exchange signals : Word) → (options : List Word) → Option Word → Option RunWords
+-- a run of these files with this certificate or without one, of options that are its workers, its
+-- limit of jobs and the certificate
+abbrev pub bounded_run : (exchange signals : Word) → (options : List Word) → Option Word
+    → Option RunWords
 bounded_run e s options certificate =
-    option_map (λ (b : Bounds). record { exchange = e; signals = s; bounds = b; certificate = certificate })
-    (bounds_beside options (value_of (codes "--workers") options) (value_of (codes "--jobs") options) certificate)
+    option_map (λ (b : Bounds). record {
+      exchange = e;
+      signals = s;
+      bounds = b;
+      certificate = certificate;
+    })
+    (bounds_beside options (value_of (codes "--workers") options)
+    (value_of (codes "--jobs") options) certificate)
 
 -- an exchange file, a signal file and options
 abbrev pub run_words : List Word → Option RunWords
@@ -77,12 +88,18 @@ run_words (e ∷ s ∷ options) = bounded_run e s options (value_of (codes "--ce
 
 -- after how many jobs the run ends, of options that are this one, or none
 abbrev pub jobs_beside : List Word → Option Word → Option ℕ
-jobs_beside options limit = (if nat_eq (length options) (words_of limit) then jobs_told limit else None)
+jobs_beside options limit =
+    (if nat_eq (length options) (words_of limit) then jobs_told limit else None)
 
 -- a run of these files without workers and a certificate: one job runs at a time
 abbrev pub single_run : (exchange signals : Word) → (options : List Word) → Option RunWords
 single_run e s options =
-    option_map (λ jobs. record { exchange = e; signals = s; bounds = record { workers = 1; jobs = jobs }; certificate = None })
+    option_map (λ jobs. record {
+      exchange = e;
+      signals = s;
+      bounds = record { workers = 1; jobs = jobs };
+      certificate = None;
+    })
     (jobs_beside options (value_of (codes "--jobs") options))
 
 abbrev pub single_words : List Word → Option RunWords
@@ -95,7 +112,8 @@ abbrev pub timed_words : List Word → Option TimedWords
 timed_words [] = None
 timed_words (e ∷ []) = None
 timed_words (e ∷ s ∷ []) = None
-timed_words (e ∷ s ∷ t ∷ options) = option_map (λ (w : RunWords). record { run = w; table = t }) (bounded_run e s options None)
+timed_words (e ∷ s ∷ t ∷ options) =
+    option_map (λ (w : RunWords). record { run = w; table = t }) (bounded_run e s options None)
 
 -- a change to this exchange after so many jobs of a run, where both are told
 abbrev pub change_at : Word → Option ℕ → Option RunWords → Option ChangeWords
@@ -109,14 +127,16 @@ change_words [] = None
 change_words (e ∷ []) = None
 change_words (e ∷ s ∷ []) = None
 change_words (e ∷ s ∷ n ∷ []) = None
-change_words (e ∷ s ∷ n ∷ k ∷ options) = change_at n (allowed_jobs (number_of k)) (bounded_run e s options None)
+change_words (e ∷ s ∷ n ∷ k ∷ options) =
+    change_at n (allowed_jobs (number_of k)) (bounded_run e s options None)
 
 -- an exchange file, a signal file, a filter and options
 abbrev pub trace_words : List Word → Option TraceWords
 trace_words [] = None
 trace_words (e ∷ []) = None
 trace_words (e ∷ s ∷ []) = None
-trace_words (e ∷ s ∷ q ∷ options) = option_map (λ (w : RunWords). record { run = w; filter = q }) (single_run e s options)
+trace_words (e ∷ s ∷ q ∷ options) =
+    option_map (λ (w : RunWords). record { run = w; filter = q }) (single_run e s options)
 
 -- the only one of these words
 abbrev pub only_word : List Word → Option Word

@@ -27,8 +27,8 @@ pub enum Status {
     Certificate,
     /// The table of periodic signals has a fault; the line that tells the first one was written.
     Table,
-    /// The exchange that is to take the place of the first one does not fit; the line that tells what
-    /// it has not was written.
+    /// The exchange that is to take the place of the first one does not fit; the line that tells
+    /// what it has not was written.
     Change,
     /// The filter has a fault; the line that tells the first one was written.
     Filter,

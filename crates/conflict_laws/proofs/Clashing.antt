@@ -3,7 +3,8 @@ use Rattle.std.proofs.Common.{◌≡◌, ℕ, ◌+◌, ◌<◌, List, length, So
 use Rattle.std.specs.Option.{option_map}
 use Rattle.std.proofs.lemmas.Option.{slice_get_within}
 use Rattle.plex_num.specs.declared.level.Level.{Level}
-use Rattle.finite_facts.proofs.Finite.{Listed, below, less, listed_as, listed_map, listed_one, listed_or, listed_some, listed_then, listed_when}
+use Rattle.finite_facts.proofs.Finite.{Listed, below, less, listed_as, listed_map, listed_one}
+use Rattle.finite_facts.proofs.Finite.{listed_or, listed_some, listed_then, listed_when}
 use Rattle.finite_facts.proofs.Rising.{in_order}
 use Rattle.entry_summary.specs.declared.summary.Access.{Access}
 use Rattle.entry_summary.specs.declared.summary.Summary.{Summary}
@@ -13,7 +14,8 @@ use Rattle.pair_tests.specs.Clashes.{clash_of}
 use Rattle.conflicts_meaning.specs.declared.rows.Clash.{Clash}
 use Rattle.conflicts_meaning.specs.declared.rows.ClashRow.{ClashRow}
 use Rattle.conflicts_meaning.specs.contracts.rows.ClashRowOrd.TheImpl.Laws as row_laws
-use Rattle.conflicts_meaning.specs.Rows.{AccessesClash, AreClashRows, IsClashRow, LevelClashes, listed, row_order}
+use Rattle.conflicts_meaning.specs.Rows.{AccessesClash, AreClashRows, IsClashRow, LevelClashes}
+use Rattle.conflicts_meaning.specs.Rows.{listed, row_order}
 use Rattle.conflict_rows.proofs.Ordering.{row_tied}
 
 module _ (first later : Summary) where
@@ -68,11 +70,25 @@ module _ (first later : Summary) where
   level_rows : Listed (LevelClashes first later)
   level_rows =
       listed_as (λ r. (n : ℕ) × (n < length first.levels) × OfPlace n r) (LevelClashes first later)
-      (λ r h. subst (LevelClashes first later) (sym h.2.2.1) (record { level = h.2.0; place = h.0; of_first = h.2.1; number = refl; alone = refl; clash = refl; below = h.2.2.0 }))
-      (λ r h. (h.place, slice_get_within first.levels h.place h.level h.of_first, (h.level, h.of_first, (h.below, (λ i. row (h.number i) (h.alone i) (h.clash i))))))
+      (λ r h. subst (LevelClashes first later) (sym h.2.2.1)
+      (record {
+        level = h.2.0;
+        place = h.0;
+        of_first = h.2.1;
+        number = refl;
+        alone = refl;
+        clash = refl;
+        below = h.2.2.0;
+      }))
+      (λ r h. (
+        h.place,
+        slice_get_within first.levels h.place h.level h.of_first,
+        (h.level, h.of_first, (h.below, (λ i. row (h.number i) (h.alone i) (h.clash i)))),
+      ))
       (listed_then (λ n. n < length first.levels) OfPlace (below (length first.levels))
       (λ n lt. listed_then (λ l. slice_get first.levels n ≡ Some l) (IsAbove n) (listed_some (slice_get first.levels n))
-      (λ l at. listed_when (level_number l < level_number later.level) (λ r. r ≡ level_row n l) (less (level_number l) (level_number later.level)) (λ lower. listed_one (level_row n l)))))
+      (λ l at. listed_when (level_number l < level_number later.level) (λ r. r ≡ level_row n l)
+      (less (level_number l) (level_number later.level)) (λ lower. listed_one (level_row n l)))))
 
   pub clash_rows : (rows : List ClashRow) × AreClashRows first later rows
   clash_rows =

@@ -1,5 +1,6 @@
 -- The text of the conflicts comes.
-use Rattle.std.proofs.Common.{◌⊎◌, inl, inr, ℕ, ◌-◌, ◌<◌, ◌≤◌, List, [], ◌∷◌, ◌++◌, length, Option, refl, sym, subst}
+use Rattle.std.proofs.Common.{◌⊎◌, inl, inr, ℕ, ◌-◌, ◌<◌, ◌≤◌, List, [], ◌∷◌, ◌++◌, length, Option}
+use Rattle.std.proofs.Common.{refl, sym, subst}
 use Rattle.std.specs.List.{Contains, flat_map}
 use Rattle.std.proofs.lemmas.Bool.{cases_lt}
 use Rattle.plex_num.proofs.Lists.{some_at}
@@ -13,7 +14,8 @@ use Rattle.conflicts_meaning.specs.declared.rows.Section.{Section}
 use Rattle.conflicts_meaning.specs.declared.rows.Section.TheVariants.{Entry, Pair}
 use Rattle.conflicts_meaning.specs.declared.rows.TheConstants.{MOST_TOLD}
 use Rattle.conflicts_meaning.specs.Lines.{clash_text, first_line, last_line, limit_line, point_text}
-use Rattle.conflicts_meaning.specs.Told.{AreConflicts, HasSectionLines, IsSectionText, Told, all_told, no_room, sections, told}
+use Rattle.conflicts_meaning.specs.Told.{AreConflicts, HasSectionLines, IsSectionText, Told}
+use Rattle.conflicts_meaning.specs.Told.{all_told, no_room, sections, told}
 use Rattle.conflicts_text.specs.Within.{IsWithin}
 use Rattle.conflicts_text.proofs.Fitting.{entry_lines, pair_lines}
 use Rattle.conflicts_text.proofs.Within.{sections_within}
@@ -42,7 +44,8 @@ module _ (T L : Section → List ℕ → Type 0) (most : ℕ) (lines : (s : Sect
   Comes all room = (text : List ℕ) × Told T L most all room text
 
   -- the first one is told, or there is no room for it
-  with_first : (s : Section) (rest : List Section) (room : ℕ) (part : List ℕ) → T s part → ((left : ℕ) → Comes rest left) → (room < length part) ⊎ (length part ≤ room) → Comes (s ∷ rest) room
+  with_first : (s : Section) (rest : List Section) (room : ℕ) (part : List ℕ) → T s part
+      → ((left : ℕ) → Comes rest left) → (room < length part) ⊎ (length part ≤ room) → Comes (s ∷ rest) room
   with_first s rest room part is more (inl over) = (limit_line most, no_room s rest room part (lines s part is) over)
   with_first s rest room part is more (inr fits) = (let t = more (room - length part) in (part ++ t.0, told s rest room part t.0 is fits t.1))
 

@@ -1,5 +1,6 @@
 -- Rows tell exactly the conflicts.
-use Rattle.std.proofs.Common.{◌≡◌, ◌↔◌, inl, inr, ⊎_elim, ℕ, ◌+◌, nat_lt, List, length, Option, Some, None, refl, sym, ap, ◌∙◌, subst}
+use Rattle.std.proofs.Common.{◌≡◌, ◌↔◌, inl, inr, ⊎_elim, ℕ, ◌+◌, nat_lt, List, length, Option}
+use Rattle.std.proofs.Common.{Some, None, refl, sym, ap, ◌∙◌, subst}
 use Rattle.std.specs.Option.{option_map}
 use Rattle.std.proofs.lemmas.Bool.{ltb-true}
 use Rattle.std.proofs.lemmas.Option.{none-some, same_Some}
@@ -42,7 +43,8 @@ one_later n m u v w z e = cc
 
 pub listed_once : (c d : Conflict) → listed c ≡ listed d → c ≡ d
 listed_once (conflict.Variable n) (conflict.Variable m) e = ap conflict.Variable (one_variable n m e)
-listed_once (conflict.Field n u v) (conflict.Field m w z) e = λ i. conflict.Field (one_field n m u v w z e i) (one_first n m u v w z e i) (one_later n m u v w z e i)
+listed_once (conflict.Field n u v) (conflict.Field m w z) e = λ i. conflict.Field (one_field n m u v w z e i)
+    (one_first n m u v w z e i) (one_later n m u v w z e i)
 listed_once (conflict.Seizing f) (conflict.Seizing g) e = ap conflict.Seizing (one_file f g e)
 listed_once (conflict.Above l) (conflict.Above m) e = ap conflict.Above (same_level l m (one_level (level_number l) (level_number m) e))
 listed_once _ _ e = cc
@@ -61,9 +63,11 @@ module _ (first later : Summary) where
   of_row c r same (inl h) =
       let m = mapped (clash_of h.one h.other) r.clash h.clash in
       subst (IsConflict first later) (listed_once m.conflict c (m.is ∙ same))
-      (clash_is first later h.one h.other m.conflict (contained first.accesses r.first h.one h.of_first) (contained later.accesses r.later h.other h.of_later) m.some)
+      (clash_is first later h.one h.other m.conflict (contained first.accesses r.first h.one h.of_first)
+      (contained later.accesses r.later h.other h.of_later) m.some)
   of_row c r same (inr h) =
-      subst (IsConflict first later) (listed_once (conflict.Above h.level) c (sym h.clash ∙ same)) (on_level h.level (contained first.levels h.place h.level h.of_first) h.below)
+      subst (IsConflict first later) (listed_once (conflict.Above h.level) c (sym h.clash ∙ same))
+      (on_level h.level (contained first.levels h.place h.level h.of_first) h.below)
 
   -- a row, and that it is of the conflict
   record RowOf (c : Conflict) : Type 0 where

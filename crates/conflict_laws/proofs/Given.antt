@@ -1,5 +1,6 @@
 -- The points that give what a summary has come as a list, in order.
-use Rattle.std.proofs.Common.{◌≡◌, ℕ, ◌+◌, ◌<◌, List, length, Some, slice_get, refl, sym, ap, ◌∙◌, subst}
+use Rattle.std.proofs.Common.{◌≡◌, ℕ, ◌+◌, ◌<◌, List, length, Some, slice_get, refl, sym, ap, ◌∙◌}
+use Rattle.std.proofs.Common.{subst}
 use Rattle.std.specs.List.{Contains}
 use Rattle.std.specs.declared.cmp.Ordering.{Ordering}
 use Rattle.std.specs.declared.cmp.Ordering.TheVariants.{Less, Equal, Greater}
@@ -12,7 +13,9 @@ use Rattle.flow_points.specs.declared.fact.Slot.TheVariants.{Depth}
 use Rattle.flow_points.specs.Facts.{Facts, IsLeast, fact}
 use Rattle.flow_points.specs.Places.{IsPlace, Place}
 use Rattle.finite_facts.proofs.Facts.{least_facts}
-use Rattle.finite_facts.proofs.Finite.{Decided, Listed, below, decided_as, is_in, listed_as, listed_if, listed_in, listed_one, listed_or, listed_some, listed_then, listed_when, no, same_number, yes}
+use Rattle.finite_facts.proofs.Finite.{Decided, Listed, below, decided_as, is_in, listed_as}
+use Rattle.finite_facts.proofs.Finite.{listed_if, listed_in, listed_one, listed_or, listed_some}
+use Rattle.finite_facts.proofs.Finite.{listed_then, listed_when, no, same_number, yes}
 use Rattle.finite_facts.proofs.Places.{places}
 use Rattle.finite_facts.proofs.Rising.{in_order}
 use Rattle.entry_summary.specs.declared.summary.Access.{Access}
@@ -24,7 +27,8 @@ use Rattle.entry_summary.specs.Summaries.{MaySendTo}
 use Rattle.analysis_existence.proofs.Accessing.{accesses, levels}
 use Rattle.conflicts_meaning.specs.declared.rows.GivenAt.{GivenAt}
 use Rattle.conflicts_meaning.specs.contracts.rows.GivenAtOrd.TheImpl.Laws as given_laws
-use Rattle.conflicts_meaning.specs.Points.{AreGiven, GivesAccess, IsAccessRow, IsGiven, IsLevelRow, SendsFrom, given_order}
+use Rattle.conflicts_meaning.specs.Points.{AreGiven, GivesAccess, IsAccessRow, IsGiven, IsLevelRow}
+use Rattle.conflicts_meaning.specs.Points.{SendsFrom, given_order}
 use Rattle.conflict_rows.proofs.Alone.{accesses_by}
 use Rattle.conflict_rows.proofs.Finding.{equal_is}
 use Rattle.conflict_rows.proofs.Pointed.{given_tied, same_level}
@@ -61,7 +65,13 @@ module _ (x : Exchange) (known : List Fact) (e : ℕ) where
   gives_access p a h =
       let f = (of_point p).each (fact e h.point Depth h.reached.0) h.reached.1 in
       subst (GivesAccess x P e a) f.1
-      (record { at = h.at; stands = h.stands; reached = (h.reached.0, f.0); access = accesses_by x (Q p) P e h.at.block h.point (λ s v k. ((of_point p).each (fact e h.point s v) k).0) h.access })
+      (record {
+        at = h.at;
+        stands = h.stands;
+        reached = (h.reached.0, f.0);
+        access = accesses_by x (Q p) P e h.at.block h.point (λ s v k. ((of_point p).each (fact e h.point s v) k).0)
+            h.access;
+      })
 
   is_access : (p : ℕ) (a : Access) → GivesAccess x P e a p → IsAccess x (Q p) e a
   is_access p a g = record {
@@ -78,7 +88,13 @@ module _ (x : Exchange) (known : List Fact) (e : ℕ) where
       subst (SendsFrom x P e l) f.1 (record { at = h.at; stands = h.stands; reached = (h.reached.0, f.0); sends = h.sends })
 
   may_send : (p : ℕ) (l : Level) → SendsFrom x P e l p → MaySendTo x (Q p) e l
-  may_send p l g = record { at = g.at; point = p; stands = g.stands; reached = (g.reached.0, (of_point p).all (fact e p Depth g.reached.0) (g.reached.1, refl)); sends = g.sends }
+  may_send p l g = record {
+    at = g.at;
+    point = p;
+    stands = g.stands;
+    reached = (g.reached.0, (of_point p).all (fact e p Depth g.reached.0) (g.reached.1, refl));
+    sends = g.sends;
+  }
 
   access_given : (p : ℕ) (a : Access) → Decided (GivesAccess x P e a p)
   access_given p a =
@@ -129,7 +145,8 @@ module _ (x : Exchange) (known : List Fact) (e : ℕ) where
           ),
         ))
         (listed_then (λ n. n < length s.accesses) OfNumber (below (length s.accesses))
-        (λ n lt. listed_then (λ a. slice_get s.accesses n ≡ Some a) (OfAccess n) (listed_some (slice_get s.accesses n)) (λ a there. placed (λ p. GivesAccess x P e a p) n (λ p. access_given p a))))
+        (λ n lt. listed_then (λ a. slice_get s.accesses n ≡ Some a) (OfAccess n) (listed_some (slice_get s.accesses n))
+        (λ a there. placed (λ p. GivesAccess x P e a p) n (λ p. access_given p a))))
 
     -- levels, which are numbered behind them
 
@@ -157,7 +174,8 @@ module _ (x : Exchange) (known : List Fact) (e : ℕ) where
           ),
         ))
         (listed_then (λ m. m < length s.levels) OfPlace (below (length s.levels))
-        (λ m lt. listed_then (λ l. slice_get s.levels m ≡ Some l) (OfLevel m) (listed_some (slice_get s.levels m)) (λ l there. placed (λ p. SendsFrom x P e l p) (length s.accesses + m) (λ p. level_given p l))))
+        (λ m lt. listed_then (λ l. slice_get s.levels m ≡ Some l) (OfLevel m) (listed_some (slice_get s.levels m))
+        (λ l there. placed (λ p. SendsFrom x P e l p) (length s.accesses + m) (λ p. level_given p l))))
 
     given : Listed (IsGiven x P e s)
     given = listed_or (IsAccessRow x P e s) (IsLevelRow x P e s) access_rows level_rows

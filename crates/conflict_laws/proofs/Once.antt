@@ -1,5 +1,6 @@
 -- The text of the conflicts is one.
-use Rattle.std.proofs.Common.{◌≡◌, ◌⊎◌, inl, inr, ℕ, ◌+◌, ◌-◌, ◌<◌, ◌≤◌, List, [], ◌∷◌, ◌++◌, length, Option, refl, sym, ap, ◌∙◌, subst, arith, length-append}
+use Rattle.std.proofs.Common.{◌≡◌, ◌⊎◌, inl, inr, ℕ, ◌+◌, ◌-◌, ◌<◌, ◌≤◌, List, [], ◌∷◌, ◌++◌}
+use Rattle.std.proofs.Common.{length, Option, refl, sym, ap, ◌∙◌, subst, arith, length-append}
 use Rattle.std.specs.Cmp.{IsTotalOrder}
 use Rattle.std.specs.List.{AllByRecursion, Contains, flat_map}
 use Rattle.std.specs.List.Sorted.{IsStrictlySortedBy}
@@ -27,7 +28,8 @@ use Rattle.conflicts_meaning.specs.contracts.rows.GivenAtOrd.TheImpl.Laws as giv
 use Rattle.conflicts_meaning.specs.Lines.{clash_text, first_line, point_text}
 use Rattle.conflicts_meaning.specs.Points.{AreGiven, AreSomeGiven, given_order}
 use Rattle.conflicts_meaning.specs.Rows.{AreClashRows, AreSomeClashRows, row_order}
-use Rattle.conflicts_meaning.specs.Told.{AreConflicts, HasSectionLines, IsSectionText, Told, all_told, no_room, sections, told}
+use Rattle.conflicts_meaning.specs.Told.{AreConflicts, HasSectionLines, IsSectionText, Told}
+use Rattle.conflicts_meaning.specs.Told.{all_told, no_room, sections, told}
 
 -- lines of some items of a list in order take no more than those of all
 
@@ -57,7 +59,8 @@ module _ {K : Type 0} (R : K → K → Ordering) (o : IsTotalOrder R) (f : K →
       by (first_or_later y x ys (within x (first_is x xs))) (λ w. no_longer xs ys a.1 b.1 w) (λ w. no_longer (x ∷ xs) ys a b.1 w)
     where
       later : y ≡ x → (k : K) → Contains xs k → Contains ys k
-      later same k c = in_rest y k ys (λ is. not_before_itself x (subst (λ z. R x z ≡ Less) (sym is ∙ same) (after x xs k a.0 c))) (within k (later_is x k xs c))
+      later same k c = in_rest y k ys (λ is. not_before_itself x
+          (subst (λ z. R x z ≡ Less) (sym is ∙ same) (after x xs k a.0 c))) (within k (later_is x k xs c))
 
       all_later : Contains ys x → (k : K) → Contains (x ∷ xs) k → Contains ys k
       all_later there k c = at (first_or_later x k xs c)
@@ -65,9 +68,13 @@ module _ {K : Type 0} (R : K → K → Ordering) (o : IsTotalOrder R) (f : K →
           at : (x ≡ k) ⊎ Contains xs k → Contains ys k
           at (inl same) = subst (Contains ys) same there
           at (inr more) =
-              in_rest y k ys (λ is. not_before_itself x (o.trans x k x (after x xs k a.0 more) (subst (λ z. R z x ≡ Less) is (after y ys x b.0 there)))) (within k c)
+              in_rest y k ys (λ is. not_before_itself x
+              (o.trans x k x (after x xs k a.0 more) (subst (λ z. R z x ≡ Less) is (after y ys x b.0 there))))
+              (within k c)
 
-      by : (y ≡ x) ⊎ Contains ys x → (((k : K) → Contains xs k → Contains ys k) → size_of xs ≤ size_of ys) → (((k : K) → Contains (x ∷ xs) k → Contains ys k) → size_of (x ∷ xs) ≤ size_of ys) → size_of (x ∷ xs) ≤ size_of (y ∷ ys)
+      by : (y ≡ x) ⊎ Contains ys x → (((k : K) → Contains xs k → Contains ys k) → size_of xs ≤ size_of ys)
+          → (((k : K) → Contains (x ∷ xs) k → Contains ys k) → size_of (x ∷ xs) ≤ size_of ys)
+          → size_of (x ∷ xs) ≤ size_of (y ∷ ys)
       by (inl same) rest skip =
           let le = rest (later same) in
           let one : size_of (x ∷ xs) ≡ length (f x) + size_of xs = length-append (f x) (flat_map f xs) in
@@ -81,11 +88,14 @@ module _ {K : Type 0} (R : K → K → Ordering) (o : IsTotalOrder R) (f : K →
 
 -- sections
 
-given_once : (x : Exchange) (e : ℕ) (s : Summary) (rows others : List GivenAt) → AreGiven x (IsLeast x) e s rows → AreGiven x (IsLeast x) e s others → rows ≡ others
-given_once x e s rows others one other = rising_once given_order given_laws.total-law rows others one.rising other.rising (λ r. same_sides (one.exact r) (other.exact r))
+given_once : (x : Exchange) (e : ℕ) (s : Summary) (rows others : List GivenAt) → AreGiven x (IsLeast x) e s rows
+    → AreGiven x (IsLeast x) e s others → rows ≡ others
+given_once x e s rows others one other = rising_once given_order given_laws.total-law rows others one.rising
+    other.rising (λ r. same_sides (one.exact r) (other.exact r))
 
 clashes_once : (first later : Summary) (rows others : List ClashRow) → AreClashRows first later rows → AreClashRows first later others → rows ≡ others
-clashes_once first later rows others one other = rising_once row_order row_laws.total-law rows others one.rising other.rising (λ r. same_sides (one.exact r) (other.exact r))
+clashes_once first later rows others one other = rising_once row_order row_laws.total-law rows others one.rising
+    other.rising (λ r. same_sides (one.exact r) (other.exact r))
 
 module _ (x : Exchange) (ss : List Summary) where
   section_once : (s : Section) (t u : List ℕ) → IsSectionText x ss s t → IsSectionText x ss s u → t ≡ u
@@ -96,23 +106,28 @@ module _ (x : Exchange) (ss : List Summary) where
   section_once (Pair p) t u one other =
       let first : one.first ≡ other.first = same_Some one.first other.first (sym one.of_first ∙ other.of_first) in
       let later : one.later ≡ other.later = same_Some one.later other.later (sym one.of_later ∙ other.of_later) in
-      let rows = clashes_once other.first other.later one.rows other.rows (subst (λ s. AreClashRows other.first s one.rows) later (subst (λ s. AreClashRows s one.later one.rows) first one.clash)) other.clash in
+      let rows = clashes_once other.first other.later one.rows other.rows
+      (subst (λ s. AreClashRows other.first s one.rows) later
+      (subst (λ s. AreClashRows s one.later one.rows) first one.clash)) other.clash in
       one.is ∙ ap (flat_map (clash_text p)) rows ∙ sym other.is
 
   lines_fit : (s : Section) (lines text : List ℕ) → HasSectionLines x ss s lines → IsSectionText x ss s text → length lines ≤ length text
   lines_fit (Entry e) lines text some whole =
       let same : some.summary ≡ whole.summary = same_Some some.summary whole.summary (sym some.there ∙ whole.there) in
       let few = subst (λ s. AreSomeGiven x (IsLeast x) e s some.rows) same some.given in
-      let le = no_longer given_order given_laws.total-law (point_text x e) some.rows whole.rows few.rising whole.given.rising (λ r c. (whole.given.exact r).1 (few.each r c)) in
+      let le = no_longer given_order given_laws.total-law (point_text x e) some.rows whole.rows few.rising
+      whole.given.rising (λ r c. (whole.given.exact r).1 (few.each r c)) in
       subst (λ l. length l ≤ length text) (sym some.are) (subst (λ t. length (flat_map (point_text x e) some.rows) ≤ length t) (sym whole.is) le)
   lines_fit (Pair p) lines text some whole =
       let first : some.first ≡ whole.first = same_Some some.first whole.first (sym some.of_first ∙ whole.of_first) in
       let later : some.later ≡ whole.later = same_Some some.later whole.later (sym some.of_later ∙ whole.of_later) in
       let few = subst (λ s. AreSomeClashRows whole.first s some.rows) later (subst (λ s. AreSomeClashRows s some.later some.rows) first some.clash) in
-      let le = no_longer row_order row_laws.total-law (clash_text p) some.rows whole.rows few.rising whole.clash.rising (λ r c. (whole.clash.exact r).1 (few.each r c)) in
+      let le = no_longer row_order row_laws.total-law (clash_text p) some.rows whole.rows few.rising whole.clash.rising
+      (λ r c. (whole.clash.exact r).1 (few.each r c)) in
       subst (λ l. length l ≤ length text) (sym some.are) (subst (λ t. length (flat_map (clash_text p) some.rows) ≤ length t) (sym whole.is) le)
 
-  never_both : (s : Section) (room : ℕ) (lines text : List ℕ) → HasSectionLines x ss s lines → room < length lines → IsSectionText x ss s text → length text ≤ room → ⊥
+  never_both : (s : Section) (room : ℕ) (lines text : List ℕ) → HasSectionLines x ss s lines → room < length lines
+      → IsSectionText x ss s text → length text ≤ room → ⊥
   never_both s room lines text some over whole fits = (let le = lines_fit s lines text some whole in omega (arith, le, over, fits))
 
   abbrev IsTold : List Section → ℕ → List ℕ → Type 0
@@ -131,7 +146,8 @@ module _ (x : Exchange) (ss : List Summary) where
 pub text_once : (x : Exchange) (asked : Option EntryPair) (t u : List ℕ) → AreConflicts x asked t → AreConflicts x asked u → t ≡ u
 text_once x asked t u one other =
     let summaries : one.summaries ≡ other.summaries = all_summaries_once x one.summaries other.summaries one.are other.are in
-    let analysis : one.analysis ≡ other.analysis = analysis_once x other.summaries one.analysis other.analysis (subst (λ s. IsAnalysis x s one.analysis) summaries one.analysed) other.analysed in
+    let analysis : one.analysis ≡ other.analysis = analysis_once x other.summaries one.analysis other.analysis
+    (subst (λ s. IsAnalysis x s one.analysis) summaries one.analysed) other.analysed in
     let rest : one.rest ≡ other.rest = told_once x other.summaries (sections (length x.entries) asked) MOST_TOLD one.rest other.rest
     (subst (λ s. IsTold x s (sections (length x.entries) asked) MOST_TOLD one.rest) summaries one.tells) other.tells in
     one.is ∙ (λ i. analysis i ++ (first_line ++ rest i)) ∙ sym other.is

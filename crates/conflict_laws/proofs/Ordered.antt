@@ -34,10 +34,12 @@ selectors_less : (u v w z : Value) → SelectorsPrecede u v w z → ordering_the
 selectors_less u v w z (inl h) = ap (λ o. ordering_then o (value_order v z)) h
 selectors_less u v w z (inr h) = ap (λ o. ordering_then o (value_order v z)) (ap (value_order u) (sym h.0) ∙ tied u) ∙ h.1
 
-field_less : (n m : ℕ) (u v w z : Value) → Precedes (Field n u v) (Field m w z) → ordering_then (nat_cmp n m) (ordering_then (value_order u w) (value_order v z)) ≡ Less
+field_less : (n m : ℕ) (u v w z : Value) → Precedes (Field n u v) (Field m w z)
+    → ordering_then (nat_cmp n m) (ordering_then (value_order u w) (value_order v z)) ≡ Less
 field_less n m u v w z (inl h) = ap (λ o. ordering_then o (ordering_then (value_order u w) (value_order v z))) (nat_less n m h)
 field_less n m u v w z (inr h) =
-    ap (λ o. ordering_then o (ordering_then (value_order u w) (value_order v z))) (ap (nat_cmp n) (sym h.0) ∙ tied_itself nat_cmp_total n) ∙ selectors_less u v w z h.1
+    ap (λ o. ordering_then o (ordering_then (value_order u w) (value_order v z)))
+    (ap (nat_cmp n) (sym h.0) ∙ tied_itself nat_cmp_total n) ∙ selectors_less u v w z h.1
 
 listed_before : (c d : Conflict) → Precedes c d → clash_order (listed c) (listed d) ≡ Less
 listed_before (Variable n) (Variable m) h = nat_less n m h

@@ -22,7 +22,8 @@ pub record IsToldAt (rows : List ClashRow) (place : ℕ) (c : Conflict) : Type 0
 
 -- no row is of a conflict that comes before that of a row above it
 pub record AreInOrder (rows : List ClashRow) : Type 0 where
-  pub none_before : (i j : ℕ) (c d : Conflict) → i < j → IsToldAt rows i c → IsToldAt rows j d → Precedes d c → ⊥
+  pub none_before : (i j : ℕ) (c d : Conflict) → i < j → IsToldAt rows i c → IsToldAt rows j d
+      → Precedes d c → ⊥
 
 -- never, with the conflict of the first row; or where tests hold, and then there are no rows
 abbrev pub TellVerdict : List ClashRow → Verdict → Type 0

@@ -1,5 +1,6 @@
 -- What is known of one point alone.
-use Rattle.std.proofs.Common.{◌≡◌, ◌≢◌, ◌↔◌, ⊎_elim, ℕ, zero, suc, Bool, true, false, List, [], ◌∷◌, map, Some, refl, sym, ap, ◌∙◌, subst, arith}
+use Rattle.std.proofs.Common.{◌≡◌, ◌≢◌, ◌↔◌, ⊎_elim, ℕ, zero, suc, Bool, true, false, List, [], ◌∷◌}
+use Rattle.std.proofs.Common.{map, Some, refl, sym, ap, ◌∙◌, subst, arith}
 use Rattle.std.specs.Prelude.{IsTrue, slice_get}
 use Rattle.std.specs.List.{Contains}
 use Rattle.std.proofs.lemmas.Bool.{cases_order}
@@ -18,7 +19,9 @@ use Rattle.flow_table.specs.declared.place.PlaceAt.{PlaceAt}
 use Rattle.flow_table.specs.Texts.{AreReachedAmong, seen}
 use Rattle.fact_rows.specs.Known.{BitRows, Knows, KnowsAt}
 use Rattle.entry_summary.specs.declared.summary.Access.{Access}
-use Rattle.entry_summary.specs.Accesses.{Accesses, IsAccess, reads, reads_holder, writes, reads_field, writes_field, searches, reads_own, writes_own, opens_own, seizes, frees}
+use Rattle.entry_summary.specs.Accesses.{Accesses, IsAccess, reads, reads_holder, writes}
+use Rattle.entry_summary.specs.Accesses.{reads_field, writes_field, searches, reads_own, writes_own}
+use Rattle.entry_summary.specs.Accesses.{opens_own, seizes, frees}
 use Rattle.entry_summary.specs.Summaries.{MaySendTo}
 use Rattle.conflicts_meaning.specs.Points.{GivesAccess, SendsFrom}
 
@@ -29,7 +32,9 @@ stands_at xs x c =
 
 -- what is reached by facts of one point is the statement there
 
-module _ (x : Exchange) (k : BitRows) (e : ℕ) (places : List PlaceAt) (are : AreReachedAmong x (Knows k) e (map seen places)) (i : ℕ) (at : PlaceAt) (there : slice_get places i ≡ Some at) where
+module _ (x : Exchange) (k : BitRows) (e : ℕ) (places : List PlaceAt)
+    (are : AreReachedAmong x (Knows k) e (map seen places)) (i : ℕ) (at : PlaceAt)
+    (there : slice_get places i ≡ Some at) where
   here : slice_get (map seen places) i ≡ Some (seen at)
   here = got_map seen places i at there
 
@@ -61,7 +66,9 @@ module _ (x : Exchange) (k : BitRows) (e : ℕ) (places : List PlaceAt) (are : A
 
 -- an access looks at facts of its point alone
 
-pub accesses_by : (x : Exchange) (P Q : Facts) (e b p : ℕ) → ((s : Slot) (v : Value) → Known P e p s v → Known Q e p s v) → {l : Layer} {a : Access} → Accesses x P e b p l a → Accesses x Q e b p l a
+pub accesses_by : (x : Exchange) (P Q : Facts) (e b p : ℕ)
+    → ((s : Slot) (v : Value) → Known P e p s v → Known Q e p s v) → {l : Layer} {a : Access} → Accesses x P e b p l a
+    → Accesses x Q e b p l a
 accesses_by x P Q e b p on (reads l variable named) = reads l variable named
 accesses_by x P Q e b p on (reads_holder l variable held) = reads_holder l variable held
 accesses_by x P Q e b p on (writes variable value) = writes variable value
@@ -78,7 +85,12 @@ module _ (x : Exchange) (k : BitRows) (e p : ℕ) where
   pub gives_access : (a : Access) → IsAccess x (KnowsAt k p) e a → GivesAccess x (Knows k) e a p
   gives_access a h =
       subst (GivesAccess x (Knows k) e a) h.reached.1.0
-      (record { at = h.at; stands = h.stands; reached = (h.reached.0, h.reached.1.1); access = accesses_by x (KnowsAt k p) (Knows k) e h.at.block h.point (λ s v f. f.1) h.access })
+      (record {
+        at = h.at;
+        stands = h.stands;
+        reached = (h.reached.0, h.reached.1.1);
+        access = accesses_by x (KnowsAt k p) (Knows k) e h.at.block h.point (λ s v f. f.1) h.access;
+      })
 
   pub is_access : (a : Access) → GivesAccess x (Knows k) e a p → IsAccess x (KnowsAt k p) e a
   is_access a g = record {
@@ -105,7 +117,8 @@ Here k p e q s v = KnowsAt k p (fact e q s v)
 pub other_values : (k : BitRows) (p e q : ℕ) (s : Slot) (values : List Value) → q ≢ p → values ≡ [] → AreValues (Here k p e q s) values
 other_values k p e q s values apart none = record { each = λ v c. absurd (none_in v (subst (λ l. Contains l v) none c)); listed = λ v h. absurd (apart h.0) }
 
-pub own_values : (k : BitRows) (p e q : ℕ) (s : Slot) (values : List Value) → q ≡ p → AreValues (λ v. Knows k (fact e q s v)) values → AreValues (Here k p e q s) values
+pub own_values : (k : BitRows) (p e q : ℕ) (s : Slot) (values : List Value) → q ≡ p
+    → AreValues (λ v. Knows k (fact e q s v)) values → AreValues (Here k p e q s) values
 own_values k p e q s values same all = record { each = λ v c. (same, all.each v c); listed = λ v h. all.listed v h.1 }
 
 pub not_reached : (k : BitRows) (p e q : ℕ) → q ≢ p → IsTrue false ↔ Reached (KnowsAt k p) e q

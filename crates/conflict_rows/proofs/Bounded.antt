@@ -1,5 +1,6 @@
 -- Rows that are found one place after the other, of which so many may be found.
-use Rattle.std.proofs.Common.{◌≡◌, ◌↔◌, ⊎_elim, ℕ, Bool, true, false, List, [], length, Option, None, sym, ap, ◌∙◌, subst}
+use Rattle.std.proofs.Common.{◌≡◌, ◌↔◌, ⊎_elim, ℕ, Bool, true, false, List, [], length, Option}
+use Rattle.std.proofs.Common.{None, sym, ap, ◌∙◌, subst}
 use Rattle.std.specs.List.{Contains}
 use Rattle.std.specs.List.Sorted.{IsStrictlySortedBy}
 use Rattle.plex_num.proofs.Members.{none_in}
@@ -17,7 +18,8 @@ use Rattle.conflict_rows.proofs.Loops.{GivenBelow}
 use Rattle.conflict_rows.proofs.Rowing.{ByPlace}
 
 -- what is compared with the bound
-pub past_or_not : (most : Option ℕ) (rows : List GivenAt) (count : ℕ) (b t : Bool) → b ≡ is_past most count → count ≡ length rows → b ≡ t → is_past most (length rows) ≡ t
+pub past_or_not : (most : Option ℕ) (rows : List GivenAt) (count : ℕ) (b t : Bool) → b ≡ is_past most count
+    → count ≡ length rows → b ≡ t → is_past most (length rows) ≡ t
 past_or_not most rows count b t is counted on = ap (is_past most) (sym counted) ∙ sym is ∙ on
 
 -- what is not past the bound need not rise
@@ -26,7 +28,8 @@ pub few_rise : (most : Option ℕ) (rows : List GivenAt) (count : ℕ) (b : Bool
 few_rise most rows count b is counted off on = absurd (let clash : false ≡ true = sym (past_or_not most rows count b false is counted off) ∙ on in cc)
 
 -- rows of the first so many places are some of all
-pub some_given : (x : Exchange) (P : Facts) (e : ℕ) (s : Summary) (places : List PlaceAt) (n : ℕ) (rows made : List GivenAt) → Adds [] rows (GivenBelow (ByPlace x P e s) places n)
+pub some_given : (x : Exchange) (P : Facts) (e : ℕ) (s : Summary) (places : List PlaceAt) (n : ℕ)
+    (rows made : List GivenAt) → Adds [] rows (GivenBelow (ByPlace x P e s) places n)
     → ((r : GivenAt) → Contains made r ↔ Contains rows r) → IsStrictlySortedBy given_order made → AreSomeGiven x P e s made
 some_given x P e s places n rows made h same up = record {
   each = λ r c. ⊎_elim (λ old. absurd (none_in r old)) (λ g. g.given.gives.given) (h.each r ((same r).0 c));

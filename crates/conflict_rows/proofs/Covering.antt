@@ -1,5 +1,7 @@
--- All that clashes of two summaries is found by an access of the first, by a field of the later, or by a level.
-use Rattle.std.proofs.Common.{◌≡◌, ◌↔◌, ◌⊎◌, inl, inr, ⊎_elim, ℕ, Bool, true, false, ◌&&◌, nat_eq, List, [], Option, Some, None, refl, sym, ap, subst}
+-- All that clashes of two summaries is found by an access of the first, by a field of the later, or
+-- by a level.
+use Rattle.std.proofs.Common.{◌≡◌, ◌↔◌, ◌⊎◌, inl, inr, ⊎_elim, ℕ, Bool, true, false, ◌&&◌, nat_eq}
+use Rattle.std.proofs.Common.{List, [], Option, Some, None, refl, sym, ap, subst}
 use Rattle.std.specs.Prelude.{slice_get}
 use Rattle.std.specs.Option.{option_map}
 use Rattle.std.specs.List.{Contains}
@@ -22,7 +24,8 @@ use Rattle.pair_tests.specs.Nearby.{near_access}
 use Rattle.pair_tests.proofs.Conflicting.{chosen, shared}
 use Rattle.conflicts_meaning.specs.declared.rows.Clash.{Clash}
 use Rattle.conflicts_meaning.specs.declared.rows.ClashRow.{ClashRow}
-use Rattle.conflicts_meaning.specs.Rows.{AccessesClash, AreClashRows, IsClashRow, LevelClashes, listed, row_order}
+use Rattle.conflicts_meaning.specs.Rows.{AccessesClash, AreClashRows, IsClashRow, LevelClashes}
+use Rattle.conflicts_meaning.specs.Rows.{listed, row_order}
 use Rattle.conflict_rows.specs.Items.{GivenBy}
 use Rattle.conflict_rows.specs.Near.{IsOfFirst, IsOfLater, IsOfLevel, NearLater, selector_of}
 
@@ -56,7 +59,8 @@ some_of (Some c) y e = (c, refl)
 some_of None y e = absurd (none-some y e)
 
 module _ (first later : Summary) where
-  of_near : (place : ℕ) (one : Access) (selector : Value) (r : ClashRow) → slice_get first.accesses place ≡ Some one → NearLater later.accesses selector place one r → AccessesClash first later r
+  of_near : (place : ℕ) (one : Access) (selector : Value) (r : ClashRow) → slice_get first.accesses place ≡ Some one
+      → NearLater later.accesses selector place one r → AccessesClash first later r
   of_near place one selector r there n = record {
     one = one;
     other = near_access one n.write selector;
@@ -89,9 +93,15 @@ module _ (first later : Summary) where
   }
 
   to_level : (r : ClashRow) → LevelClashes first later r → GivenBy (IsOfLevel first.accesses later.level) first.levels r
-  to_level r h = record { place = h.place; item = h.level; there = h.of_first; gives = record { number = h.number; alone = h.alone; clash = h.clash; below = h.below } }
+  to_level r h = record {
+    place = h.place;
+    item = h.level;
+    there = h.of_first;
+    gives = record { number = h.number; alone = h.alone; clash = h.clash; below = h.below };
+  }
 
-  near : (r : ClashRow) (h : AccessesClash first later r) (selector : Value) (v : Bool) → h.other ≡ near_access h.one v selector → NearLater later.accesses selector r.first h.one r
+  near : (r : ClashRow) (h : AccessesClash first later r) (selector : Value) (v : Bool)
+      → h.other ≡ near_access h.one v selector → NearLater later.accesses selector r.first h.one r
   near r h selector v same = record {
     write = v;
     clashes = record {
@@ -101,7 +111,8 @@ module _ (first later : Summary) where
     };
   }
 
-  found : (r : ClashRow) (h : AccessesClash first later r) → Covered h.one h.other → GivenBy (IsOfFirst later.accesses) first.accesses r ⊎ GivenBy (IsOfLater first.accesses) later.accesses r
+  found : (r : ClashRow) (h : AccessesClash first later r) → Covered h.one h.other
+      → GivenBy (IsOfFirst later.accesses) first.accesses r ⊎ GivenBy (IsOfLater first.accesses) later.accesses r
   found r h (By_any v same) = inl (record { place = r.first; item = h.one; there = h.of_first; gives = inl (near r h Any v same) })
   found r h (By_own v same) = inl (record { place = r.first; item = h.one; there = h.of_first; gives = inr (near r h (selector_of h.one) v same) })
   found r h (By_field w field same) = inr (record {
@@ -121,14 +132,17 @@ module _ (first later : Summary) where
     };
   })
 
-  to_access : (r : ClashRow) → AccessesClash first later r → GivenBy (IsOfFirst later.accesses) first.accesses r ⊎ GivenBy (IsOfLater first.accesses) later.accesses r
+  to_access : (r : ClashRow) → AccessesClash first later r
+      → GivenBy (IsOfFirst later.accesses) first.accesses r ⊎ GivenBy (IsOfLater first.accesses) later.accesses r
   to_access r h = (let s = some_of (clash_of h.one h.other) r.clash h.clash in found r h (covered h.one h.other s.0 s.1))
 
   exact : (none ones others levels made : List ClashRow) → none ≡ [] → Adds none ones (GivenBy (IsOfFirst later.accesses) first.accesses)
       → Adds ones others (GivenBy (IsOfLater first.accesses) later.accesses) → Adds others levels (GivenBy (IsOfLevel first.accesses later.level) first.levels)
       → ((r : ClashRow) → Contains made r ↔ Contains levels r) → (r : ClashRow) → Contains made r ↔ IsClashRow first later r
   exact none ones others levels made empty a b l same r = (
-    λ c. ⊎_elim (λ in_others. ⊎_elim (λ in_ones. ⊎_elim (λ old. absurd (none_in r (subst (λ k. Contains k r) empty old))) (λ g. inl (of_first r g)) (a.each r in_ones)) (λ g. inl (of_later r g)) (b.each r in_others)) (λ g. inr (of_level r g)) (l.each r ((same r).0 c)),
+    λ c. ⊎_elim (λ in_others. ⊎_elim (λ in_ones. ⊎_elim
+        (λ old. absurd (none_in r (subst (λ k. Contains k r) empty old))) (λ g. inl (of_first r g)) (a.each r in_ones))
+        (λ g. inl (of_later r g)) (b.each r in_others)) (λ g. inr (of_level r g)) (l.each r ((same r).0 c)),
     λ h. (same r).1 (⊎_elim (λ k. l.kept r (⊎_elim (λ g. b.kept r (a.added r g)) (λ g. b.added r g) (to_access r k))) (λ k. l.added r (to_level r k)) h),
   )
 
@@ -140,7 +154,8 @@ all_rows first later ones others levels none a b c made is_ones is_others is_lev
   exact = exact first later none a b c made empty
       (subst (λ xs. Adds none a (GivenBy (IsOfFirst xs) first.accesses)) is_others (subst (λ xs. Adds none a (GivenBy (IsOfFirst others) xs)) is_ones f))
       (subst (λ xs. Adds a b (GivenBy (IsOfLater first.accesses) xs)) is_others (subst (λ xs. Adds a b (GivenBy (IsOfLater xs) others)) is_ones g))
-      (subst (λ xs. Adds b c (GivenBy (IsOfLevel first.accesses later.level) xs)) is_levels (subst (λ xs. Adds b c (GivenBy (IsOfLevel xs later.level) levels)) is_ones h))
+      (subst (λ xs. Adds b c (GivenBy (IsOfLevel first.accesses later.level) xs)) is_levels
+      (subst (λ xs. Adds b c (GivenBy (IsOfLevel xs later.level) levels)) is_ones h))
       same;
   rising = up;
 }

@@ -1,5 +1,6 @@
 -- Where an access stands in a list in order.
-use Rattle.std.proofs.Common.{◌≡◌, ◌⊎◌, inl, inr, ⊎_elim, ℕ, ◌+◌, ◌<◌, ◌≤◌, true, false, List, length, get_or, Some, Err, sym, ap, ◌∙◌, arith, rules}
+use Rattle.std.proofs.Common.{◌≡◌, ◌⊎◌, inl, inr, ⊎_elim, ℕ, ◌+◌, ◌<◌, ◌≤◌, true, false, List}
+use Rattle.std.proofs.Common.{length, get_or, Some, Err, sym, ap, ◌∙◌, arith, rules}
 use Rattle.std.specs.Prelude.{slice_get}
 use Rattle.std.specs.declared.cmp.Ordering.{Ordering}
 use Rattle.std.specs.declared.cmp.Ordering.TheVariants.{Less, Equal, Greater}
@@ -42,7 +43,8 @@ module _ (xs : List Access) (up : IsStrictlySortedBy access_order xs) where
   -- it stands at one place alone
   pub place_once : (i j : ℕ) (a : Access) → slice_get xs i ≡ Some a → slice_get xs j ≡ Some a → i ≡ j
   place_once i j a at there =
-      ⊎_elim (λ same. same) (λ apart. ⊎_elim (λ lt. absurd (not_before i j a at there lt)) (λ gt. absurd (not_before j i a there at gt)) apart) (cases_order i j)
+      ⊎_elim (λ same. same) (λ apart. ⊎_elim (λ lt. absurd (not_before i j a at there lt))
+      (λ gt. absurd (not_before j i a there at gt)) apart) (cases_order i j)
 
   pub found_place : (a : Access) (place : ℕ) → place < length xs → ((d : Access) → access_order (get_or xs place d) a ≡ Equal) → slice_get xs place ≡ Some a
   found_place a place lt same =

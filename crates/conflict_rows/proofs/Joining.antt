@@ -6,7 +6,8 @@ use Rattle.entry_summary.specs.declared.summary.Access.{Access}
 use Rattle.entry_accesses.specs.Adding.{Adds}
 use Rattle.pair_tests.specs.Nearby.{near_access}
 use Rattle.conflicts_meaning.specs.declared.rows.ClashRow.{ClashRow}
-use Rattle.conflict_rows.specs.Near.{ClashesFirst, ClashesLater, IsOfFirst, NearFirst, NearLater, selector_of}
+use Rattle.conflict_rows.specs.Near.{ClashesFirst, ClashesLater, IsOfFirst, NearFirst, NearLater}
+use Rattle.conflict_rows.specs.Near.{selector_of}
 use Rattle.conflict_rows.proofs.Loops.{adds_two}
 
 -- what one that reads gives and one that writes, over any of them
@@ -17,7 +18,8 @@ both near F reads writes r one other true h = inr (subst (λ b. F b r) (sym othe
 
 pub both_later : (others : List Access) (selector : Value) (place : ℕ) (one reads writes : Access) (old now new : List ClashRow)
     → reads ≡ near_access one false selector → writes ≡ near_access one true selector
-    → Adds old now (ClashesLater others reads place one) → Adds now new (ClashesLater others writes place one) → Adds old new (NearLater others selector place one)
+    → Adds old now (ClashesLater others reads place one) → Adds now new (ClashesLater others writes place one)
+    → Adds old new (NearLater others selector place one)
 both_later others selector place one reads writes old now new is_read is_write =
     adds_two (ClashesLater others reads place one) (ClashesLater others writes place one) (NearLater others selector place one) old now new
     (λ r h. record { write = false; clashes = subst (λ b. ClashesLater others b place one r) is_read h })

@@ -1,5 +1,7 @@
 -- One row of a point more, or none.
-use Rattle.std.proofs.Common.{◌≡◌, ◌↔◌, ⊎_elim, ℕ, ◌+◌, Bool, true, false, nat_eq, ◌||◌, List, [], ◌∷◌, ◌++◌, Option, Some, None, refl, sym, ap, ◌∙◌, subst, rules, IsPermutation, IsSorted}
+use Rattle.std.proofs.Common.{◌≡◌, ◌↔◌, ⊎_elim, ℕ, ◌+◌, Bool, true, false, nat_eq, ◌||◌, List, []}
+use Rattle.std.proofs.Common.{◌∷◌, ◌++◌, Option, Some, None, refl, sym, ap, ◌∙◌, subst, rules}
+use Rattle.std.proofs.Common.{IsPermutation, IsSorted}
 use Rattle.std.specs.Prelude.{slice_get}
 use Rattle.std.specs.List.{Contains, dedup}
 use Rattle.std.specs.List.Sorted.{IsStrictlySortedBy}
@@ -31,10 +33,13 @@ use Rattle.conflict_rows.proofs.Loops.{adds_nothing}
 pub access_missing : (all : List Access) (access : Access) (point : ℕ) (p : Option ℕ) (old : List GivenAt) → StandsThere all access p → p ≡ None
     → (place : ℕ) → Adds old old (AccessAt all point place access)
 access_missing all access point p old there none place =
-    adds_nothing (AccessAt all point place access) old (λ r g. (let nowhere : Contains all access → ⊥ = subst (StandsThere all access) none there in nowhere (contained all r.number access g.number)))
+    adds_nothing (AccessAt all point place access) old
+    (λ r g. (let nowhere : Contains all access
+    → ⊥ = subst (StandsThere all access) none there in nowhere (contained all r.number access g.number)))
 
 pub access_pushed : (all : List Access) (access : Access) (point : ℕ) (p : Option ℕ) (number : ℕ) (old new : List GivenAt) → IsStrictlySortedBy access_order all
-    → StandsThere all access p → p ≡ Some number → new ≡ old ++ record { number = number; point = point } ∷ [] → (place : ℕ) → Adds old new (AccessAt all point place access)
+    → StandsThere all access p → p ≡ Some number → new ≡ old ++ record { number = number; point = point } ∷ []
+    → (place : ℕ) → Adds old new (AccessAt all point place access)
 access_pushed all access point p number old new up there found made place =
     push_adds old new row (AccessAt all point place access) made
     (λ r same. subst (AccessAt all point place access) same (record { number = at; point_is = refl }))
@@ -59,7 +64,8 @@ found_is : (sent : List Level) (l : Level) → is_sent sent l ≡ true → Conta
 found_is [] l is = cc
 found_is (m ∷ sent) l is = by (nat_eq (level_number m) (level_number l)) refl is (found_is sent l)
   where
-    by : (t : Bool) → nat_eq (level_number m) (level_number l) ≡ t → (t || is_sent sent l) ≡ true → (is_sent sent l ≡ true → Contains sent l) → Contains (m ∷ sent) l
+    by : (t : Bool) → nat_eq (level_number m) (level_number l) ≡ t → (t || is_sent sent l) ≡ true
+        → (is_sent sent l ≡ true → Contains sent l) → Contains (m ∷ sent) l
     by true here h rest = subst (Contains (m ∷ sent)) (same_level m l (eqb-true (level_number m) (level_number l) here)) (first_is m sent)
     by false here h rest = later_is m l sent (rest h)
 
@@ -71,7 +77,8 @@ is_found (m ∷ sent) l c = by (nat_eq (level_number m) (level_number l)) refl (
     by true here rest = refl
     by false here rest =
         ⊎_elim
-        (λ same. absurd (let clash : false ≡ true = sym here ∙ ap (λ k. nat_eq (level_number k) (level_number l)) same ∙ eq-eqb (level_number l) (level_number l) refl in cc))
+        (λ same. absurd (let clash : false ≡ true = sym here ∙ ap (λ k. nat_eq (level_number k) (level_number l)) same
+        ∙ eq-eqb (level_number l) (level_number l) refl in cc))
         rest
         (first_or_later m l sent c)
 
@@ -81,7 +88,8 @@ level_missing sent level point b old is off number count place same =
     adds_nothing (LevelAt count sent point place level) old (λ r g. (let clash : false ≡ true = sym off ∙ is ∙ is_found sent level g.sends in cc))
 
 pub level_pushed : (sent : List Level) (level : Level) (point number : ℕ) (b : Bool) (old new : List GivenAt) → b ≡ is_sent sent level → b ≡ true
-    → new ≡ old ++ record { number = number; point = point } ∷ [] → (count place : ℕ) → number ≡ count + place → Adds old new (LevelAt count sent point place level)
+    → new ≡ old ++ record { number = number; point = point } ∷ [] → (count place : ℕ) → number ≡ count + place
+    → Adds old new (LevelAt count sent point place level)
 level_pushed sent level point number b old new is on made count place same =
     push_adds old new row (LevelAt count sent point place level) made
     (λ r e. subst (LevelAt count sent point place level) e (record { sends = found_is sent level (sym is ∙ on); number = same; point_is = refl }))
@@ -101,8 +109,11 @@ same_given a b is = search (rules, is)
 pub given_tied : (a b : GivenAt) → given_order a b ≡ Equal → a ≡ b
 given_tied a b tied = same_given a b (order_laws.matches_eq-law a b ∙ ap is_eq tied)
 
-pub given_rising : (sorted new result : List GivenAt) → IsSorted given_order sorted → new ≡ dedup alike sorted → result ≡ new → IsStrictlySortedBy given_order result
-given_rising sorted new result h is same = subst (IsStrictlySortedBy given_order) (sym (same ∙ is)) (IsStrictlySortedBy-dedup order_laws.total-law order_laws.matches_eq-law sorted h)
+pub given_rising : (sorted new result : List GivenAt) → IsSorted given_order sorted → new ≡ dedup alike sorted
+    → result ≡ new → IsStrictlySortedBy given_order result
+given_rising sorted new result h is same = subst (IsStrictlySortedBy given_order) (sym (same ∙ is))
+    (IsStrictlySortedBy-dedup order_laws.total-law order_laws.matches_eq-law sorted h)
 
-pub given_same : (found items sorted new result : List GivenAt) → items ≡ found → IsPermutation items sorted → new ≡ dedup alike sorted → result ≡ new → (r : GivenAt) → Contains result r ↔ Contains found r
+pub given_same : (found items sorted new result : List GivenAt) → items ≡ found → IsPermutation items sorted
+    → new ≡ dedup alike sorted → result ≡ new → (r : GivenAt) → Contains result r ↔ Contains found r
 given_same = same_items alike equal_laws.laws-law same_given

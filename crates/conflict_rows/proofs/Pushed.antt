@@ -1,5 +1,6 @@
 -- One row more, or none.
-use Rattle.std.proofs.Common.{◌≡◌, ◌⊎◌, inl, inr, ℕ, ◌<◌, ◌≤◌, Bool, true, false, List, [], ◌∷◌, ◌++◌, Option, Some, None, refl, sym, ◌∙◌, subst, arith}
+use Rattle.std.proofs.Common.{◌≡◌, ◌⊎◌, inl, inr, ℕ, ◌<◌, ◌≤◌, Bool, true, false, List, [], ◌∷◌}
+use Rattle.std.proofs.Common.{◌++◌, Option, Some, None, refl, sym, ◌∙◌, subst, arith}
 use Rattle.std.specs.Prelude.{slice_get}
 use Rattle.std.specs.Option.{option_map}
 use Rattle.std.specs.List.{Contains}
@@ -45,7 +46,8 @@ pub later_missing : (others : List Access) (other : Access) (place : ℕ) (one :
 later_missing others other place one p old there none =
     adds_nothing (ClashesLater others other place one) old (λ r g. stands_nowhere others other p there none (contained others r.later other g.there))
 
-pub later_pushed : (others : List Access) (other : Access) (place : ℕ) (one : Access) (o : Option Clash) (p : Option ℕ) (clash : Clash) (later : ℕ) (old new : List ClashRow)
+pub later_pushed : (others : List Access) (other : Access) (place : ℕ) (one : Access) (o : Option Clash) (p : Option ℕ)
+    (clash : Clash) (later : ℕ) (old new : List ClashRow)
     → IsStrictlySortedBy access_order others → o ≡ option_map listed (clash_of one other) → o ≡ Some clash → StandsThere others other p → p ≡ Some later
     → new ≡ old ++ record { clash = clash; first = place; later = later } ∷ [] → Adds old new (ClashesLater others other place one)
 later_pushed others other place one o p clash later old new up is some there found made =
@@ -77,7 +79,8 @@ pub first_missing : (ones : List Access) (one : Access) (place : ℕ) (other : A
 first_missing ones one place other p old there none =
     adds_nothing (ClashesFirst ones one place other) old (λ r g. stands_nowhere ones one p there none (contained ones r.first one g.there))
 
-pub first_pushed : (ones : List Access) (one : Access) (place : ℕ) (other : Access) (o : Option Clash) (p : Option ℕ) (clash : Clash) (first : ℕ) (old new : List ClashRow)
+pub first_pushed : (ones : List Access) (one : Access) (place : ℕ) (other : Access) (o : Option Clash) (p : Option ℕ)
+    (clash : Clash) (first : ℕ) (old new : List ClashRow)
     → IsStrictlySortedBy access_order ones → o ≡ option_map listed (clash_of one other) → o ≡ Some clash → StandsThere ones one p → p ≡ Some first
     → new ≡ old ++ record { clash = clash; first = first; later = place } ∷ [] → Adds old new (ClashesFirst ones one place other)
 first_pushed ones one place other o p clash first old new up is some there found made =
@@ -100,10 +103,12 @@ first_pushed ones one place other o p clash first old new up is some there found
 
 -- of a field or not
 
-pub no_field : (ones : List Access) (place : ℕ) (other : Access) (b : Bool) (old : List ClashRow) → b ≡ asks other → b ≡ false → Adds old old (IsOfLater ones place other)
+pub no_field : (ones : List Access) (place : ℕ) (other : Access) (b : Bool) (old : List ClashRow) → b ≡ asks other
+    → b ≡ false → Adds old old (IsOfLater ones place other)
 no_field ones place other b old is off = adds_nothing (IsOfLater ones place other) old (λ r g. (let e : false ≡ true = sym off ∙ is ∙ g.field in cc))
 
-pub of_field : (ones : List Access) (place : ℕ) (other : Access) (b : Bool) (old new : List ClashRow) → b ≡ asks other → b ≡ true → Adds old new (NearFirst ones place other) → Adds old new (IsOfLater ones place other)
+pub of_field : (ones : List Access) (place : ℕ) (other : Access) (b : Bool) (old new : List ClashRow) → b ≡ asks other
+    → b ≡ true → Adds old new (NearFirst ones place other) → Adds old new (IsOfLater ones place other)
 of_field ones place other b old new is on h = record {
   each = λ r c. ⊎_map (h.each r c);
   kept = h.kept;
@@ -116,11 +121,15 @@ of_field ones place other b old new is on h = record {
 
 -- of a level
 
-pub level_below : (later : Level) (number : ℕ) (level : Level) (m n : ℕ) (old : List ClashRow) → m ≡ level_number level → n ≡ level_number later → n ≤ m → Adds old old (IsOfLevelAt later number level)
-level_below later number level m n old one other low = adds_nothing (IsOfLevelAt later number level) old (λ r g. (let b = g.below in absurd (omega (arith, one, other, low, b))))
+pub level_below : (later : Level) (number : ℕ) (level : Level) (m n : ℕ) (old : List ClashRow) → m ≡ level_number level
+    → n ≡ level_number later → n ≤ m → Adds old old (IsOfLevelAt later number level)
+level_below later number level m n old one other low = adds_nothing (IsOfLevelAt later number level) old
+    (λ r g. (let b = g.below in absurd (omega (arith, one, other, low, b))))
 
-pub level_pushed : (later : Level) (number : ℕ) (level : Level) (m n : ℕ) (clash : Clash) (old new : List ClashRow) → m ≡ level_number level → n ≡ level_number later → m < n
-    → clash ≡ listed (conflict.Above level) → new ≡ old ++ record { clash = clash; first = number; later = 0 } ∷ [] → Adds old new (IsOfLevelAt later number level)
+pub level_pushed : (later : Level) (number : ℕ) (level : Level) (m n : ℕ) (clash : Clash) (old new : List ClashRow)
+    → m ≡ level_number level → n ≡ level_number later → m < n
+    → clash ≡ listed (conflict.Above level) → new ≡ old ++ record { clash = clash; first = number; later = 0 } ∷ []
+    → Adds old new (IsOfLevelAt later number level)
 level_pushed later number level m n clash old new one other high is made =
     push_adds old new row (IsOfLevelAt later number level) made
     (λ r same. subst (IsOfLevelAt later number level) same (record { number = refl; alone = refl; clash = is; below = omega (arith, one, other, high) }))

@@ -1,5 +1,6 @@
 -- The rows of all points.
-use Rattle.std.proofs.Common.{◌≡◌, ◌↔◌, ◌⊎◌, inl, inr, ⊎_elim, ℕ, List, [], length, map, sym, ap, ◌∙◌, subst}
+use Rattle.std.proofs.Common.{◌≡◌, ◌↔◌, ◌⊎◌, inl, inr, ⊎_elim, ℕ, List, [], length, map, sym, ap}
+use Rattle.std.proofs.Common.{◌∙◌, subst}
 use Rattle.std.specs.List.{Contains}
 use Rattle.std.specs.List.Sorted.{IsStrictlySortedBy}
 use Rattle.plex_num.specs.declared.level.Level.{Level}
@@ -27,14 +28,16 @@ use Rattle.conflict_rows.proofs.Loops.{adds_two}
 -- what one statement gives
 
 module _ (x : Exchange) (k : BitRows) (e : ℕ) (s : Summary) (at : PlaceAt) (accesses : List Access) (levels : List Level)
-    (all_accesses : (a : Access) → Contains accesses a ↔ IsAccess x (KnowsAt k at.point) e a) (all_levels : (l : Level) → Contains levels l ↔ MaySendTo x (KnowsAt k at.point) e l) where
+    (all_accesses : (a : Access) → Contains accesses a ↔ IsAccess x (KnowsAt k at.point) e a)
+    (all_levels : (l : Level) → Contains levels l ↔ MaySendTo x (KnowsAt k at.point) e l) where
   of_access : (r : GivenAt) → GivenBy (AccessAt s.accesses at.point) accesses r → GivesAt x (Knows k) e s at r
   of_access r g = record {
     point = g.gives.point_is;
     given = inl (record {
       access = g.item;
       there = g.gives.number;
-      gives = subst (GivesAccess x (Knows k) e g.item) (sym g.gives.point_is) (gives_access x k e at.point g.item ((all_accesses g.item).0 (contained accesses g.place g.item g.there)));
+      gives = subst (GivesAccess x (Knows k) e g.item) (sym g.gives.point_is)
+          (gives_access x k e at.point g.item ((all_accesses g.item).0 (contained accesses g.place g.item g.there)));
     });
   }
 
@@ -50,7 +53,9 @@ module _ (x : Exchange) (k : BitRows) (e : ℕ) (s : Summary) (at : PlaceAt) (ac
     });
   }
 
-  cases : (r : GivenAt) → GivesAt x (Knows k) e s at r → GivenBy (AccessAt s.accesses at.point) accesses r ⊎ GivenBy (LevelAt (length s.accesses) levels at.point) s.levels r
+  cases : (r : GivenAt) → GivesAt x (Knows k) e s at r
+      → GivenBy (AccessAt s.accesses at.point) accesses r
+      ⊎ GivenBy (LevelAt (length s.accesses) levels at.point) s.levels r
   cases r g = by g.given
     where
       by : IsGiven x (Knows k) e s r → GivenBy (AccessAt s.accesses at.point) accesses r ⊎ GivenBy (LevelAt (length s.accesses) levels at.point) s.levels r
@@ -69,20 +74,28 @@ module _ (x : Exchange) (k : BitRows) (e : ℕ) (s : Summary) (at : PlaceAt) (ac
         };
       })
 
-  pub place_rows : (old now new : List GivenAt) → Adds old now (GivenBy (AccessAt s.accesses at.point) accesses) → Adds now new (GivenBy (LevelAt (length s.accesses) levels at.point) s.levels) → Adds old new (GivesAt x (Knows k) e s at)
+  pub place_rows : (old now new : List GivenAt) → Adds old now (GivenBy (AccessAt s.accesses at.point) accesses)
+      → Adds now new (GivenBy (LevelAt (length s.accesses) levels at.point) s.levels)
+      → Adds old new (GivesAt x (Knows k) e s at)
   place_rows old now new =
-      adds_two (GivenBy (AccessAt s.accesses at.point) accesses) (GivenBy (LevelAt (length s.accesses) levels at.point) s.levels) (GivesAt x (Knows k) e s at) old now new of_access of_level cases
+      adds_two (GivenBy (AccessAt s.accesses at.point) accesses)
+      (GivenBy (LevelAt (length s.accesses) levels at.point) s.levels) (GivesAt x (Knows k) e s at) old now new
+      of_access of_level cases
 
 -- the same over the slices of the lists
-pub place_written : (x : Exchange) (k : BitRows) (e : ℕ) (s : Summary) (at : PlaceAt) (all accesses given : List Access) (levels sent listed : List Level) (old now new : List GivenAt)
+pub place_written : (x : Exchange) (k : BitRows) (e : ℕ) (s : Summary) (at : PlaceAt) (all accesses given : List Access)
+    (levels sent listed : List Level) (old now new : List GivenAt)
     → all ≡ s.accesses → given ≡ accesses → levels ≡ s.levels → listed ≡ sent
     → ((a : Access) → Contains accesses a ↔ IsAccess x (KnowsAt k at.point) e a) → ((l : Level) → Contains sent l ↔ MaySendTo x (KnowsAt k at.point) e l)
-    → Adds old now (GivenBy (AccessAt all at.point) given) → Adds now new (GivenBy (LevelAt (length all) listed at.point) levels) → Adds old new (GivesAt x (Knows k) e s at)
+    → Adds old now (GivenBy (AccessAt all at.point) given)
+    → Adds now new (GivenBy (LevelAt (length all) listed at.point) levels)
+    → Adds old new (GivesAt x (Knows k) e s at)
 place_written x k e s at all accesses given levels sent listed old now new is_all is_given is_levels is_listed of_accesses of_levels f g =
     place_rows x k e s at accesses sent of_accesses of_levels old now new
     (subst (λ xs. Adds old now (GivenBy (AccessAt xs at.point) accesses)) is_all (subst (λ xs. Adds old now (GivenBy (AccessAt all at.point) xs)) is_given f))
     (subst (λ n. Adds now new (GivenBy (LevelAt n sent at.point) s.levels)) (ap length is_all)
-    (subst (λ xs. Adds now new (GivenBy (LevelAt (length all) sent at.point) xs)) is_levels (subst (λ xs. Adds now new (GivenBy (LevelAt (length all) xs at.point) levels)) is_listed g)))
+    (subst (λ xs. Adds now new (GivenBy (LevelAt (length all) sent at.point) xs)) is_levels
+    (subst (λ xs. Adds now new (GivenBy (LevelAt (length all) xs at.point) levels)) is_listed g)))
 
 -- what all give
 
@@ -93,9 +106,12 @@ row_place : (x : Exchange) (P : Facts) (e : ℕ) (s : Summary) (r : GivenAt) →
 row_place x P e s r (inl h) = (h.gives.at, h.gives.stands, h.gives.reached)
 row_place x P e s r (inr h) = (h.sends.at, h.sends.stands, h.sends.reached)
 
-pub all_given : (x : Exchange) (P : Facts) (e : ℕ) (s : Summary) (places : List PlaceAt) (none rows made : List GivenAt) → AreReachedAmong x P e (map seen places) → none ≡ []
-    → Adds none rows (GivenBy (ByPlace x P e s) places) → ((r : GivenAt) → Contains made r ↔ Contains rows r) → IsStrictlySortedBy given_order made → AreGiven x P e s made
-all_given x P e s places none rows made are empty h same up = record { exact = λ r. (λ c. there r ((same r).0 c), λ g. (same r).1 (h.added r (back r g))); rising = up }
+pub all_given : (x : Exchange) (P : Facts) (e : ℕ) (s : Summary) (places : List PlaceAt) (none rows made : List GivenAt)
+    → AreReachedAmong x P e (map seen places) → none ≡ []
+    → Adds none rows (GivenBy (ByPlace x P e s) places) → ((r : GivenAt) → Contains made r ↔ Contains rows r)
+    → IsStrictlySortedBy given_order made → AreGiven x P e s made
+all_given x P e s places none rows made are empty h same up = record
+    { exact = λ r. (λ c. there r ((same r).0 c), λ g. (same r).1 (h.added r (back r g))); rising = up }
   where
     there : (r : GivenAt) → Contains rows r → IsGiven x P e s r
     there r c = ⊎_elim (λ old. absurd (none_in r (subst (λ l. Contains l r) empty old))) (λ g. g.gives.given) (h.each r c)

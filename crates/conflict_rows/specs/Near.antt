@@ -20,19 +20,22 @@ selector_of (Field w n u) = u
 selector_of a = Any
 
 -- one access of the first, at its place, and another of the later
-pub record ClashesLater (others : List Access) (other : Access) (place : ℕ) (one : Access) (r : ClashRow) : Type 0 where
+pub record ClashesLater (others : List Access) (other : Access) (place : ℕ) (one : Access)
+    (r : ClashRow) : Type 0 where
   pub first : r.first ≡ place
   pub there : slice_get others r.later ≡ Some other
   pub clash : option_map listed (clash_of one other) ≡ Some r.clash
 
 -- one access of the later, at its place, and another of the first
-pub record ClashesFirst (ones : List Access) (one : Access) (place : ℕ) (other : Access) (r : ClashRow) : Type 0 where
+pub record ClashesFirst (ones : List Access) (one : Access) (place : ℕ) (other : Access)
+    (r : ClashRow) : Type 0 where
   pub later : r.later ≡ place
   pub there : slice_get ones r.first ≡ Some one
   pub clash : option_map listed (clash_of one other) ≡ Some r.clash
 
 -- with one of its number that has this selector
-pub record NearLater (others : List Access) (selector : Value) (place : ℕ) (one : Access) (r : ClashRow) : Type 0 where
+pub record NearLater (others : List Access) (selector : Value) (place : ℕ) (one : Access)
+    (r : ClashRow) : Type 0 where
   pub write : Bool
   pub clashes : ClashesLater others (near_access one write selector) place one r
 
@@ -42,7 +45,8 @@ pub record NearFirst (ones : List Access) (place : ℕ) (other : Access) (r : Cl
 
 -- found by an access of the first
 abbrev pub IsOfFirst : List Access → ℕ → Access → ClashRow → Type 0
-IsOfFirst others place one r = NearLater others Any place one r ⊎ NearLater others (selector_of one) place one r
+IsOfFirst others place one r =
+    NearLater others Any place one r ⊎ NearLater others (selector_of one) place one r
 
 -- found by an access of the later, which is of a field
 pub record IsOfLater (ones : List Access) (place : ℕ) (other : Access) (r : ClashRow) : Type 0 where

@@ -7,7 +7,8 @@ ghost use Rattle.entry_accesses.specs.Adding.{Adds};
 ghost use Rattle.conflicts_meaning.specs.declared.rows.ClashRow.{ClashRow as RowType};
 ghost use Rattle.conflicts_meaning.specs.Rows.{AreClashRows, row_order};
 ghost use Rattle.conflict_rows.specs.Items.{GivenBy};
-ghost use Rattle.conflict_rows.specs.Near.{ClashesFirst, ClashesLater, IsOfFirst, IsOfLater, IsOfLevel, IsOfLevelAt, NearFirst, NearLater};
+ghost use Rattle.conflict_rows.specs.Near.{ClashesFirst, ClashesLater, IsOfFirst, IsOfLater};
+ghost use Rattle.conflict_rows.specs.Near.{IsOfLevel, IsOfLevelAt, NearFirst, NearLater};
 
 use crate::clash::{clash, listed};
 use crate::near::selector_of;

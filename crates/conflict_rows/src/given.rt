@@ -1,5 +1,6 @@
 // The points whose statements give what a summary has.
-ghost use Rattle.std.specs.Prelude.{◌≡◌, ◌↔◌, ◌∷◌, ◌+◌, ◌<◌, ℕ, true, [], map, length, slice_get, Some, IfOk, OnOk};
+ghost use Rattle.std.specs.Prelude.{◌≡◌, ◌↔◌, ◌∷◌, ◌+◌, ◌<◌, ℕ, true, [], map, length, slice_get};
+ghost use Rattle.std.specs.Prelude.{Some, IfOk, OnOk};
 ghost use Rattle.std.specs.List.{Contains};
 ghost use Rattle.std.specs.List.Sorted.{IsStrictlySortedBy};
 ghost use Rattle.flow_table.specs.Texts.{AreReachedAmong, seen};
@@ -183,7 +184,8 @@ fn push_access(
     rows: &mut Seq<GivenAt>,
 ) -> Result<(), Memory>
     requires { IsStrictlySortedBy access_order all.now }
-    ensures { OnOk result ((place : ℕ) → Adds rows.old rows.new (AccessAt all.now point place access)) }
+    ensures { OnOk result ((place : ℕ) → Adds rows.old rows.new
+        (AccessAt all.now point place access)) }
 {
     let Some(number) = place_of(all, access) else {
         return Ok(());

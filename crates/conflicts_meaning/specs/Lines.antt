@@ -17,7 +17,8 @@ line_at x p = option_map_or (λ (i : PointInfo). i.line) (slice_get x.points p) 
 
 -- `AT e k POINT p LINE n`: the statement at the point gives what has number k of entry e
 abbrev pub point_line : Exchange → ℕ → GivenAt → List ℕ
-point_line x e r = codes "AT " ++ decimal e ++ codes " " ++ decimal r.number ++ codes " POINT " ++ decimal r.point ++ codes " LINE " ++ decimal (line_at x r.point)
+point_line x e r = codes "AT " ++ decimal e ++ codes " " ++ decimal r.number ++ codes " POINT "
+    ++ decimal r.point ++ codes " LINE " ++ decimal (line_at x r.point)
 
 -- the number of the later's access; nothing of a level
 abbrev pub later_words : Clash → ℕ → List ℕ
@@ -26,7 +27,8 @@ later_words c n = codes " " ++ decimal n
 
 -- `CLASH i j k l`: access k of entry i and access l of entry j; `CLASH i j k` of a level
 abbrev pub clash_line : EntryPair → ClashRow → List ℕ
-clash_line p r = codes "CLASH " ++ decimal p.first ++ codes " " ++ decimal p.later ++ codes " " ++ decimal r.first ++ later_words r.clash r.later
+clash_line p r = codes "CLASH " ++ decimal p.first ++ codes " " ++ decimal p.later ++ codes " "
+    ++ decimal r.first ++ later_words r.clash r.later
 
 -- both with their ends
 

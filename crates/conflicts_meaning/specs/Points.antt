@@ -34,7 +34,8 @@ pub record IsAccessRow (x : Exchange) (P : Facts) (e : ℕ) (s : Summary) (r : G
   pub there : slice_get s.accesses r.number ≡ Some access
   pub gives : GivesAccess x P e access r.point
 
--- the number is that of a level to which the statement at the point sends; levels are numbered behind the accesses
+-- the number is that of a level to which the statement at the point sends; levels are numbered
+-- behind the accesses
 pub record IsLevelRow (x : Exchange) (P : Facts) (e : ℕ) (s : Summary) (r : GivenAt) : Type 0 where
   pub level : Level
   pub place : ℕ
@@ -51,11 +52,13 @@ abbrev pub given_order : GivenAt → GivenAt → Ordering
 given_order = given.ghosts.cmp
 
 -- all points of all accesses and levels of a summary, in order, each once
-pub record AreGiven (x : Exchange) (P : Facts) (e : ℕ) (s : Summary) (rows : List GivenAt) : Type 0 where
+pub record AreGiven (x : Exchange) (P : Facts) (e : ℕ) (s : Summary) (rows : List GivenAt) : Type
+    0 where
   pub exact : (r : GivenAt) → Contains rows r ↔ IsGiven x P e s r
   pub rising : IsStrictlySortedBy given_order rows
 
 -- points of accesses and levels of a summary, some or all, in order, each once
-pub record AreSomeGiven (x : Exchange) (P : Facts) (e : ℕ) (s : Summary) (rows : List GivenAt) : Type 0 where
+pub record AreSomeGiven (x : Exchange) (P : Facts) (e : ℕ) (s : Summary)
+    (rows : List GivenAt) : Type 0 where
   pub each : (r : GivenAt) → Contains rows r → IsGiven x P e s r
   pub rising : IsStrictlySortedBy given_order rows

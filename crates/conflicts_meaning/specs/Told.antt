@@ -1,5 +1,6 @@
 -- The text: an analysis, and behind it which statements give what it tells, and all that clashes.
-use Rattle.std.specs.Prelude.{◌≡◌, ℕ, ◌-◌, ◌<◌, ◌≤◌, nat_eq, nat_lt, ◌&&◌, List, [], ◌∷◌, ◌++◌, length, flat_map, map, Option, Some, None, slice_get, if◌then◌else◌}
+use Rattle.std.specs.Prelude.{◌≡◌, ℕ, ◌-◌, ◌<◌, ◌≤◌, nat_eq, nat_lt, ◌&&◌, List, [], ◌∷◌, ◌++◌}
+use Rattle.std.specs.Prelude.{length, flat_map, map, Option, Some, None, slice_get, if◌then◌else◌}
 use Rattle.std.specs.List.{range_with_len}
 use Rattle.exchange_model.specs.declared.exchange.Exchange.{Exchange}
 use Rattle.exchange_model.specs.Inside.{joined}
@@ -18,7 +19,8 @@ use Rattle.conflicts_meaning.specs.Rows.{AreClashRows, AreSomeClashRows}
 use Rattle.conflicts_meaning.specs.Lines.{clash_text, first_line, last_line, limit_line, point_text}
 
 -- all points of the entry of this number
-pub record IsEntryText (x : Exchange) (summaries : List Summary) (e : ℕ) (text : List ℕ) : Type 0 where
+pub record IsEntryText (x : Exchange) (summaries : List Summary) (e : ℕ) (text : List ℕ) : Type
+    0 where
   pub summary : Summary
   pub there : slice_get summaries e ≡ Some summary
   pub rows : List GivenAt
@@ -41,7 +43,8 @@ IsSectionText x summaries (Pair p) text = IsPairText summaries p text
 
 -- lines of these, some or all, in order, each once
 
-pub record HasEntryLines (x : Exchange) (summaries : List Summary) (e : ℕ) (lines : List ℕ) : Type 0 where
+pub record HasEntryLines (x : Exchange) (summaries : List Summary) (e : ℕ) (lines : List ℕ) : Type
+    0 where
   pub summary : Summary
   pub there : slice_get summaries e ≡ Some summary
   pub rows : List GivenAt
@@ -61,14 +64,19 @@ abbrev pub HasSectionLines : Exchange → List Summary → Section → List ℕ 
 HasSectionLines x summaries (Entry e) lines = HasEntryLines x summaries e lines
 HasSectionLines x summaries (Pair p) lines = HasPairLines summaries p lines
 
--- the texts of these sections, one after the other, and the last line, where there is room for so many bytes of the most that are
--- told: the first section of which some lines take more than that is not told, nor is anything behind it
-pub data Told (IsText HasLines : Section → List ℕ → Type 0) (most : ℕ) : List Section → ℕ → List ℕ → Type 0 where
+-- the texts of these sections, one after the other, and the last line, where there is room for so
+-- many bytes of the most that are told: the first section of which some lines take more than that
+-- is not told, nor is anything behind it
+pub data Told (IsText HasLines : Section → List ℕ → Type 0) (most : ℕ) : List Section → ℕ → List ℕ
+    → Type 0 where
   all_told : (room : ℕ) → Told IsText HasLines most [] room last_line
-  no_room : (s : Section) (rest : List Section) (room : ℕ) (lines : List ℕ) → HasLines s lines → room < length lines
+  no_room : (s : Section) (rest : List Section) (room : ℕ) (lines : List ℕ) → HasLines s lines
+      → room < length lines
       → Told IsText HasLines most (s ∷ rest) room (limit_line most)
-  told : (s : Section) (rest : List Section) (room : ℕ) (part text : List ℕ) → IsText s part → length part ≤ room
-      → Told IsText HasLines most rest (room - length part) text → Told IsText HasLines most (s ∷ rest) room (part ++ text)
+  told : (s : Section) (rest : List Section) (room : ℕ) (part text : List ℕ) → IsText s part
+      → length part ≤ room
+      → Told IsText HasLines most rest (room - length part) text
+      → Told IsText HasLines most (s ∷ rest) room (part ++ text)
 
 -- a pair of these numbers
 abbrev pub pair : ℕ → ℕ → EntryPair
@@ -87,7 +95,8 @@ all_sections n = map Entry (range_with_len 0 n) ++ joined (map (pair_row n) (ran
 
 -- those of one pair: its entries, and the pair
 abbrev pub pair_sections : EntryPair → List Section
-pair_sections p = if nat_eq p.first p.later then Entry p.first ∷ Pair p ∷ [] else Entry p.first ∷ Entry p.later ∷ Pair p ∷ []
+pair_sections p = if nat_eq p.first p.later then Entry p.first ∷ Pair p ∷ []
+    else Entry p.first ∷ Entry p.later ∷ Pair p ∷ []
 
 -- those that are asked for; none where an entry of the pair is not there
 abbrev pub sections : ℕ → Option EntryPair → List Section
@@ -101,5 +110,6 @@ pub record AreConflicts (x : Exchange) (asked : Option EntryPair) (text : List �
   pub analysis : List ℕ
   pub analysed : IsAnalysis x summaries analysis
   pub rest : List ℕ
-  pub tells : Told (IsSectionText x summaries) (HasSectionLines x summaries) MOST_TOLD (sections (length x.entries) asked) MOST_TOLD rest
+  pub tells : Told (IsSectionText x summaries) (HasSectionLines x summaries) MOST_TOLD
+      (sections (length x.entries) asked) MOST_TOLD rest
   pub is : text ≡ analysis ++ (first_line ++ rest)

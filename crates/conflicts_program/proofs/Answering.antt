@@ -1,5 +1,7 @@
 -- From what is told of an exchange to the answer to the words.
-use Rattle.std.proofs.Common.{◌≡◌, ℕ, Bool, true, false, ◌≤◌, ◌<◌, List, [], ◌∷◌, length, get_or, Option, Some, None, Result, Ok, IfOk, refl, sym, ap, ◌∙◌, subst, arith}
+use Rattle.std.proofs.Common.{◌≡◌, ℕ, Bool, true, false, ◌≤◌, ◌<◌, List, [], ◌∷◌, length, get_or}
+use Rattle.std.proofs.Common.{Option, Some, None, Result, Ok, IfOk, refl, sym, ap, ◌∙◌, subst}
+use Rattle.std.proofs.Common.{arith}
 use Rattle.std.proofs.lemmas.Option.{none-some}
 use Rattle.plex_io.specs.Files.{Files}
 use Rattle.command_words.specs.Words.{Word}
@@ -13,7 +15,9 @@ use Rattle.answer_meaning.proofs.Stages.{performs_as, performs_told}
 use Rattle.answer_meaning.proofs.Endings.{makes_told, makes_usage}
 use Rattle.answer_meaning.specs.declared.answer.Answer.{Answer}
 use Rattle.answer_meaning.specs.declared.answer.Stop.{Stop}
-use Rattle.conflicts_program.specs.Words.{AnswersConflicts, AreOthers, Asked, IsAnswerBy, IsConflictsAnswer, asked, asked_by, asked_of_one, asked_of_pair, is_own, usage_answer}
+use Rattle.conflicts_program.specs.Words.{AnswersConflicts, AreOthers, Asked, IsAnswerBy}
+use Rattle.conflicts_program.specs.Words.{IsConflictsAnswer, asked, asked_by, asked_of_one}
+use Rattle.conflicts_program.specs.Words.{asked_of_pair, is_own, usage_answer}
 
 -- one word, and three, are their items
 
@@ -22,7 +26,8 @@ one_is [] e least most i = absurd (omega (arith, least))
 one_is (u ∷ []) e least most i = λ p. i p ∷ []
 one_is (u ∷ v ∷ rest) e least most i = absurd (omega (arith, most))
 
-three_are : (words : List Word) (e i j : Word) → 3 ≤ length words → length words < 4 → e ≡ get_or words 0 e → i ≡ get_or words 1 i → j ≡ get_or words 2 j → e ∷ i ∷ j ∷ [] ≡ words
+three_are : (words : List Word) (e i j : Word) → 3 ≤ length words → length words < 4 → e ≡ get_or words 0 e
+    → i ≡ get_or words 1 i → j ≡ get_or words 2 j → e ∷ i ∷ j ∷ [] ≡ words
 three_are [] e i j least most a b c = absurd (omega (arith, least))
 three_are (u ∷ []) e i j least most a b c = absurd (omega (arith, least))
 three_are (u ∷ v ∷ []) e i j least most a b c = absurd (omega (arith, least))
@@ -31,17 +36,24 @@ three_are (u ∷ v ∷ w ∷ x ∷ rest) e i j least most a b c = absurd (omega 
 
 -- what the words ask for is told
 
-told_so : (words : List Word) (w : Asked) (files : Files) (o : Out Answer) → asked words ≡ Some w → FromExchange w.exchange (AnswersConflicts w.pair) files o → IsConflictsAnswer words files (answer_of o)
+told_so : (words : List Word) (w : Asked) (files : Files) (o : Out Answer) → asked words ≡ Some w
+    → FromExchange w.exchange (AnswersConflicts w.pair) files o → IsConflictsAnswer words files (answer_of o)
 unfolding IsConflictsAnswer
 told_so words w files o is comes = subst (λ s. IsAnswerBy s files (answer_of o)) (sym is) (record { outcome = o; comes = comes; told = refl })
 
-answers_told : (held : Option Files) (words : List Word) (w : Asked) (b a : ℕ) (r : Result Answer Stop) → asked words ≡ Some w → Performs held (FromExchange w.exchange (AnswersConflicts w.pair)) b a r → Answers (IsConflictsAnswer words) held b a r
+answers_told : (held : Option Files) (words : List Word) (w : Asked) (b a : ℕ) (r : Result Answer Stop)
+    → asked words ≡ Some w → Performs held (FromExchange w.exchange (AnswersConflicts w.pair)) b a r
+    → Answers (IsConflictsAnswer words) held b a r
 answers_told held words w b a r is comes =
-    performs_as held (FromExchange w.exchange (AnswersConflicts w.pair)) (λ files o. IsConflictsAnswer words files (answer_of o)) b a r (λ files o. told_so words w files o is) comes
+    performs_as held (FromExchange w.exchange (AnswersConflicts w.pair))
+    (λ files o. IsConflictsAnswer words files (answer_of o)) b a r (λ files o. told_so words w files o is) comes
 
-makes_asked : (held : Option Files) (words : List Word) (w : Asked) (b a : ℕ) (r : Result Answer Stop) → asked words ≡ Some w → Performs held (FromExchange w.exchange (AnswersConflicts w.pair)) b a r → IfOk r (λ a. IsEnding a.status) → Makes (AreOthers words) usage_answer r
+makes_asked : (held : Option Files) (words : List Word) (w : Asked) (b a : ℕ) (r : Result Answer Stop)
+    → asked words ≡ Some w → Performs held (FromExchange w.exchange (AnswersConflicts w.pair)) b a r
+    → IfOk r (λ a. IsEnding a.status) → Makes (AreOthers words) usage_answer r
 makes_asked held words w b a r is comes ends =
-    makes_told (AreOthers words) usage_answer held (FromExchange w.exchange (AnswersConflicts w.pair)) b a r (λ others. none-some w (sym others ∙ is)) comes ends
+    makes_told (AreOthers words) usage_answer held (FromExchange w.exchange (AnswersConflicts w.pair)) b a r
+    (λ others. none-some w (sym others ∙ is)) comes ends
 
 -- they ask for nothing
 
@@ -49,9 +61,11 @@ usage_is : (words : List Word) (files : Files) (o : Out Answer) → AreOthers wo
 unfolding IsConflictsAnswer
 usage_is words files o others is = subst (λ s. IsAnswerBy s files (answer_of o)) (sym others) (ap answer_of is)
 
-answers_usage : (held : Option Files) (words : List Word) (n : ℕ) (r : Result Answer Stop) → AreOthers words → ReadAs (Ok usage_answer) r → Answers (IsConflictsAnswer words) held n n r
+answers_usage : (held : Option Files) (words : List Word) (n : ℕ) (r : Result Answer Stop) → AreOthers words
+    → ReadAs (Ok usage_answer) r → Answers (IsConflictsAnswer words) held n n r
 answers_usage held words n r others reads =
-    performs_as held (λ files o. Ok usage_answer ≡ o) (λ files o. IsConflictsAnswer words files (answer_of o)) n n r (λ files o. usage_is words files o others) (performs_told held (λ o. Ok usage_answer ≡ o) n r reads)
+    performs_as held (λ files o. Ok usage_answer ≡ o) (λ files o. IsConflictsAnswer words files (answer_of o)) n n r
+    (λ files o. usage_is words files o others) (performs_told held (λ o. Ok usage_answer ≡ o) n r reads)
 
 makes_no_answer : (words : List Word) (r : Result Answer Stop) → AreOthers words → ReadAs (Ok usage_answer) r → Makes (AreOthers words) usage_answer r
 makes_no_answer words r others reads = makes_usage (AreOthers words) usage_answer r others refl reads
@@ -72,10 +86,14 @@ module _ (held : Option Files) (e i j : Word) (o : Option EntryPair) (is : o ≡
   asks_none : o ≡ None → AreOthers (e ∷ i ∷ j ∷ [])
   asks_none none = ap (asked_of_pair e) (sym is ∙ none)
 
-  pub pair_answers : (p : EntryPair) (b a : ℕ) (r : Result Answer Stop) → o ≡ Some p → Performs held (FromExchange e (AnswersConflicts (Some p))) b a r → Answers (IsConflictsAnswer (e ∷ i ∷ j ∷ [])) held b a r
+  pub pair_answers : (p : EntryPair) (b a : ℕ) (r : Result Answer Stop) → o ≡ Some p
+      → Performs held (FromExchange e (AnswersConflicts (Some p))) b a r
+      → Answers (IsConflictsAnswer (e ∷ i ∷ j ∷ [])) held b a r
   pair_answers p b a r some = answers_told held (e ∷ i ∷ j ∷ []) (record { exchange = e; pair = Some p }) b a r (asks_pair p some)
 
-  pub pair_makes : (p : EntryPair) (b a : ℕ) (r : Result Answer Stop) → o ≡ Some p → Performs held (FromExchange e (AnswersConflicts (Some p))) b a r → IfOk r (λ a. IsEnding a.status) → Makes (AreOthers (e ∷ i ∷ j ∷ [])) usage_answer r
+  pub pair_makes : (p : EntryPair) (b a : ℕ) (r : Result Answer Stop) → o ≡ Some p
+      → Performs held (FromExchange e (AnswersConflicts (Some p))) b a r → IfOk r (λ a. IsEnding a.status)
+      → Makes (AreOthers (e ∷ i ∷ j ∷ [])) usage_answer r
   pair_makes p b a r some = makes_asked held (e ∷ i ∷ j ∷ []) (record { exchange = e; pair = Some p }) b a r (asks_pair p some)
 
   pub no_pair_answers : (n : ℕ) (r : Result Answer Stop) → o ≡ None → ReadAs (Ok usage_answer) r → Answers (IsConflictsAnswer (e ∷ i ∷ j ∷ [])) held n n r
@@ -93,10 +111,13 @@ module _ (held : Option Files) (e : Word) (own : Bool) (is : own ≡ is_own e) w
   asks_itself : own ≡ true → AreOthers (e ∷ [])
   asks_itself on = ap (λ b. asked_of_one b e) (sym is ∙ on)
 
-  pub all_answers : (b a : ℕ) (r : Result Answer Stop) → own ≡ false → Performs held (FromExchange e (AnswersConflicts None)) b a r → Answers (IsConflictsAnswer (e ∷ [])) held b a r
+  pub all_answers : (b a : ℕ) (r : Result Answer Stop) → own ≡ false
+      → Performs held (FromExchange e (AnswersConflicts None)) b a r → Answers (IsConflictsAnswer (e ∷ [])) held b a r
   all_answers b a r off = answers_told held (e ∷ []) (record { exchange = e; pair = None }) b a r (asks_all off)
 
-  pub all_makes : (b a : ℕ) (r : Result Answer Stop) → own ≡ false → Performs held (FromExchange e (AnswersConflicts None)) b a r → IfOk r (λ a. IsEnding a.status) → Makes (AreOthers (e ∷ [])) usage_answer r
+  pub all_makes : (b a : ℕ) (r : Result Answer Stop) → own ≡ false
+      → Performs held (FromExchange e (AnswersConflicts None)) b a r → IfOk r (λ a. IsEnding a.status)
+      → Makes (AreOthers (e ∷ [])) usage_answer r
   all_makes b a r off = makes_asked held (e ∷ []) (record { exchange = e; pair = None }) b a r (asks_all off)
 
   pub own_answers : (n : ℕ) (r : Result Answer Stop) → own ≡ true → ReadAs (Ok usage_answer) r → Answers (IsConflictsAnswer (e ∷ [])) held n n r
@@ -108,20 +129,28 @@ module _ (held : Option Files) (e : Word) (own : Bool) (is : own ≡ is_own e) w
 pub ruleset all_rules = (all_makes, own_makes)
 
 module _ (held : Option Files) (words : List Word) (b a : ℕ) (r : Result Answer Stop) where
-  pub one_answers : (e : Word) → 1 ≤ length words → length words < 2 → e ≡ get_or words 0 e → Answers (IsConflictsAnswer (e ∷ [])) held b a r → Answers (IsConflictsAnswer words) held b a r
+  pub one_answers : (e : Word) → 1 ≤ length words → length words < 2 → e ≡ get_or words 0 e
+      → Answers (IsConflictsAnswer (e ∷ [])) held b a r → Answers (IsConflictsAnswer words) held b a r
   one_answers e least most i h = subst (λ ws. Answers (IsConflictsAnswer ws) held b a r) (one_is words e least most i) h
 
-  pub one_makes : (e : Word) → 1 ≤ length words → length words < 2 → e ≡ get_or words 0 e → Makes (AreOthers (e ∷ [])) usage_answer r → Makes (AreOthers words) usage_answer r
+  pub one_makes : (e : Word) → 1 ≤ length words → length words < 2 → e ≡ get_or words 0 e
+      → Makes (AreOthers (e ∷ [])) usage_answer r → Makes (AreOthers words) usage_answer r
   one_makes e least most i h = subst (λ ws. Makes (AreOthers ws) usage_answer r) (one_is words e least most i) h
 
-  pub three_answers : (e i j : Word) → 3 ≤ length words → length words < 4 → e ≡ get_or words 0 e → i ≡ get_or words 1 i → j ≡ get_or words 2 j → Answers (IsConflictsAnswer (e ∷ i ∷ j ∷ [])) held b a r → Answers (IsConflictsAnswer words) held b a r
+  pub three_answers : (e i j : Word) → 3 ≤ length words → length words < 4 → e ≡ get_or words 0 e → i ≡ get_or words 1 i
+      → j ≡ get_or words 2 j → Answers (IsConflictsAnswer (e ∷ i ∷ j ∷ [])) held b a r
+      → Answers (IsConflictsAnswer words) held b a r
   three_answers e i j least most one two three h = subst (λ ws. Answers (IsConflictsAnswer ws) held b a r) (three_are words e i j least most one two three) h
 
-  pub three_makes : (e i j : Word) → 3 ≤ length words → length words < 4 → e ≡ get_or words 0 e → i ≡ get_or words 1 i → j ≡ get_or words 2 j → Makes (AreOthers (e ∷ i ∷ j ∷ [])) usage_answer r → Makes (AreOthers words) usage_answer r
+  pub three_makes : (e i j : Word) → 3 ≤ length words → length words < 4 → e ≡ get_or words 0 e → i ≡ get_or words 1 i
+      → j ≡ get_or words 2 j → Makes (AreOthers (e ∷ i ∷ j ∷ [])) usage_answer r
+      → Makes (AreOthers words) usage_answer r
   three_makes e i j least most one two three h = subst (λ ws. Makes (AreOthers ws) usage_answer r) (three_are words e i j least most one two three) h
 
-pub other_answers : (held : Option Files) (words : List Word) (n : ℕ) (r : Result Answer Stop) → (length words ≡ 1 → ⊥) → (length words ≡ 3 → ⊥) → ReadAs (Ok usage_answer) r → Answers (IsConflictsAnswer words) held n n r
+pub other_answers : (held : Option Files) (words : List Word) (n : ℕ) (r : Result Answer Stop) → (length words ≡ 1 → ⊥)
+    → (length words ≡ 3 → ⊥) → ReadAs (Ok usage_answer) r → Answers (IsConflictsAnswer words) held n n r
 other_answers held words n r one three = answers_usage held words n r (asks_nothing words one three)
 
-pub other_makes : (words : List Word) (r : Result Answer Stop) → (length words ≡ 1 → ⊥) → (length words ≡ 3 → ⊥) → ReadAs (Ok usage_answer) r → Makes (AreOthers words) usage_answer r
+pub other_makes : (words : List Word) (r : Result Answer Stop) → (length words ≡ 1 → ⊥) → (length words ≡ 3 → ⊥)
+    → ReadAs (Ok usage_answer) r → Makes (AreOthers words) usage_answer r
 other_makes words r one three = makes_no_answer words r (asks_nothing words one three)

@@ -11,7 +11,8 @@ use Rattle.answer_meaning.specs.Outcome.{ComesOf, IsAnAnswer, Out}
 use Rattle.answer_meaning.specs.Given.{exchange_at}
 use Rattle.answer_meaning.specs.Answer.{answer_of}
 use Rattle.answer_meaning.specs.declared.answer.Answer.{Answer}
-use Rattle.conflicts_program.specs.Words.{AnswersConflicts, Asked, IsAnswerBy, IsConflictsAnswer, asked, usage_answer}
+use Rattle.conflicts_program.specs.Words.{AnswersConflicts, Asked, IsAnswerBy, IsConflictsAnswer}
+use Rattle.conflicts_program.specs.Words.{asked, usage_answer}
 
 -- what is told of the exchange that a name comes to
 

@@ -1,9 +1,9 @@
 // The program plex-conflicts as one call: all conflicts of an exchange, with their statements.
 //
-// What goes in: the name of an exchange text, and the numbers of two entries where one pair is asked
-// for; a shelf of files and a sink. What comes out: a status, and in the sink the text, or the line
-// of the first fault of the exchange text. It knows no process: main gives it the real devices. It
-// runs nothing.
+// What goes in: the name of an exchange text, and the numbers of two entries where one pair is
+// asked for; a shelf of files and a sink. What comes out: a status, and in the sink the text, or
+// the line of the first fault of the exchange text. It knows no process: main gives it the real
+// devices. It runs nothing.
 #![tactic(auto)]
 
 mod laws;

@@ -14,7 +14,8 @@ module _ (T L : List ℕ → Type 0) (room : ℕ) (o : Option (List ℕ)) (withi
   lines_are_more is = subst (TextWithin T L room) is within
 
 -- a text that fits, or does not
-pub whole_within : (T L : List ℕ → Type 0) (room : ℕ) (text : List ℕ) (o : Option (List ℕ)) → T text → ((t : List ℕ) → T t → L t) → TextWithin (λ t. t ≡ text) (λ t. t ≡ text) room o → TextWithin T L room o
+pub whole_within : (T L : List ℕ → Type 0) (room : ℕ) (text : List ℕ) (o : Option (List ℕ)) → T text
+    → ((t : List ℕ) → T t → L t) → TextWithin (λ t. t ≡ text) (λ t. t ≡ text) room o → TextWithin T L room o
 whole_within T L room text (Some t) is lines h = (subst T (sym h.0) is, h.1)
 whole_within T L room text None is lines h = (h.0, subst L (sym h.1) (lines text is), h.2)
 
@@ -28,7 +29,13 @@ module _ {R : Type 0} (All Few : List R → Type 0) (lines : List R → List ℕ
 -- a whole text is lines of itself
 
 pub entry_lines : (x : Exchange) (summaries : List Summary) (e : ℕ) (text : List ℕ) → IsEntryText x summaries e text → HasEntryLines x summaries e text
-entry_lines x summaries e text h = record { summary = h.summary; there = h.there; rows = h.rows; given = record { each = λ r c. (h.given.exact r).0 c; rising = h.given.rising }; are = h.is }
+entry_lines x summaries e text h = record {
+  summary = h.summary;
+  there = h.there;
+  rows = h.rows;
+  given = record { each = λ r c. (h.given.exact r).0 c; rising = h.given.rising };
+  are = h.is;
+}
 
 pub pair_lines : (summaries : List Summary) (p : EntryPair) (text : List ℕ) → IsPairText summaries p text → HasPairLines summaries p text
 pair_lines summaries p text h = record {

@@ -29,14 +29,18 @@ clash_parts old f i g j h k w z a b c d new a_is b_is c_is d_is new_is =
     to_new ∙ simp append_assoc
 
 pub point_written : (x : Exchange) (e : ℕ) (r : GivenAt) (line : ℕ) (old a b c d new : List ℕ) → line ≡ line_at x r.point
-    → a ≡ old ++ codes "AT " ++ decimal e → b ≡ a ++ codes " " ++ decimal r.number → c ≡ b ++ codes " POINT " ++ decimal r.point → d ≡ c ++ codes " LINE " ++ decimal line
+    → a ≡ old ++ codes "AT " ++ decimal e → b ≡ a ++ codes " " ++ decimal r.number
+    → c ≡ b ++ codes " POINT " ++ decimal r.point → d ≡ c ++ codes " LINE " ++ decimal line
     → new ≡ d ++ 10 ∷ [] → new ≡ old ++ point_text x e r
 point_written x e r line old a b c d new is a_is b_is c_is d_is new_is =
-    point_parts old (codes "AT ") (decimal e) (codes " ") (decimal r.number) (codes " POINT ") (decimal r.point) (codes " LINE ") (decimal (line_at x r.point)) (10 ∷ []) a b c d new
+    point_parts old (codes "AT ") (decimal e) (codes " ") (decimal r.number) (codes " POINT ") (decimal r.point)
+    (codes " LINE ") (decimal (line_at x r.point)) (10 ∷ []) a b c d new
     a_is b_is c_is (d_is ∙ ap (λ n. c ++ codes " LINE " ++ decimal n) is) new_is
 
 pub clash_written : (p : EntryPair) (r : ClashRow) (old a b c d new : List ℕ)
-    → a ≡ old ++ codes "CLASH " ++ decimal p.first → b ≡ a ++ codes " " ++ decimal p.later → c ≡ b ++ codes " " ++ decimal r.first → d ≡ c ++ later_words r.clash r.later
+    → a ≡ old ++ codes "CLASH " ++ decimal p.first → b ≡ a ++ codes " " ++ decimal p.later
+    → c ≡ b ++ codes " " ++ decimal r.first → d ≡ c ++ later_words r.clash r.later
     → new ≡ d ++ 10 ∷ [] → new ≡ old ++ clash_text p r
 clash_written p r old a b c d new =
-    clash_parts old (codes "CLASH ") (decimal p.first) (codes " ") (decimal p.later) (codes " ") (decimal r.first) (later_words r.clash r.later) (10 ∷ []) a b c d new
+    clash_parts old (codes "CLASH ") (decimal p.first) (codes " ") (decimal p.later) (codes " ") (decimal r.first)
+    (later_words r.clash r.later) (10 ∷ []) a b c d new

@@ -1,5 +1,6 @@
 -- Lists over ranges of numbers, one number after the other.
-use Rattle.std.proofs.Common.{◌≡◌, ℕ, ◌+◌, ◌≤◌, List, [], ◌∷◌, ◌++◌, map, sym, ap, ◌∙◌, subst, arith, append_assoc, append-nil}
+use Rattle.std.proofs.Common.{◌≡◌, ℕ, ◌+◌, ◌≤◌, List, [], ◌∷◌, ◌++◌, map, sym, ap, ◌∙◌, subst}
+use Rattle.std.proofs.Common.{arith, append_assoc, append-nil}
 use Rattle.std.specs.List.{range_with_len}
 use Rattle.std.proofs.lemmas.List.FromFn.{map-range_with_len_more}
 use Rattle.exchange_model.specs.Inside.{joined}
@@ -12,11 +13,13 @@ module _ {X : Type 0} (f : ℕ → X) where
   pub range_begin : (old : List X) → old ≡ old ++ map f (range_with_len 0 0)
   range_begin old = sym (append-nil old)
 
-  pub range_more : (n : ℕ) (old now new : List X) → now ≡ old ++ map f (range_with_len 0 n) → new ≡ now ++ f n ∷ [] → new ≡ old ++ map f (range_with_len 0 (n + 1))
+  pub range_more : (n : ℕ) (old now new : List X) → now ≡ old ++ map f (range_with_len 0 n) → new ≡ now ++ f n ∷ []
+      → new ≡ old ++ map f (range_with_len 0 (n + 1))
   range_more n old now new is made =
       made ∙ ap (λ l. l ++ f n ∷ []) is ∙ append_assoc old (map f (range_with_len 0 n)) (f n ∷ []) ∙ ap (λ l. old ++ l) (sym (grown n))
 
-  pub range_end : (n count : ℕ) (old now : List X) → n ≤ count → count ≤ n → now ≡ old ++ map f (range_with_len 0 n) → now ≡ old ++ map f (range_with_len 0 count)
+  pub range_end : (n count : ℕ) (old now : List X) → n ≤ count → count ≤ n → now ≡ old ++ map f (range_with_len 0 n)
+      → now ≡ old ++ map f (range_with_len 0 count)
   range_end n count old now low high is = (let same : n ≡ count = omega (arith, low, high) in subst (λ k. now ≡ old ++ map f (range_with_len 0 k)) same is)
 
 module _ {X : Type 0} (f : ℕ → List X) where
@@ -29,8 +32,11 @@ module _ {X : Type 0} (f : ℕ → List X) where
   pub rows_begin : (front none now : List X) → none ≡ [] → now ≡ none ++ front → now ≡ front ++ joined (map f (range_with_len 0 0))
   rows_begin front none now empty is = is ∙ ap (λ l. l ++ front) empty ∙ sym (append-nil front)
 
-  pub rows_more : (n : ℕ) (front now new : List X) → now ≡ front ++ joined (map f (range_with_len 0 n)) → new ≡ now ++ f n → new ≡ front ++ joined (map f (range_with_len 0 (n + 1)))
+  pub rows_more : (n : ℕ) (front now new : List X) → now ≡ front ++ joined (map f (range_with_len 0 n))
+      → new ≡ now ++ f n → new ≡ front ++ joined (map f (range_with_len 0 (n + 1)))
   rows_more n front now new is made = made ∙ ap (λ l. l ++ f n) is ∙ append_assoc front (rows n) (f n) ∙ ap (λ l. front ++ l) (sym (rows_grown n))
 
-  pub rows_end : (n count : ℕ) (front now : List X) → n ≤ count → count ≤ n → now ≡ front ++ joined (map f (range_with_len 0 n)) → now ≡ front ++ joined (map f (range_with_len 0 count))
-  rows_end n count front now low high is = (let same : n ≡ count = omega (arith, low, high) in subst (λ k. now ≡ front ++ joined (map f (range_with_len 0 k))) same is)
+  pub rows_end : (n count : ℕ) (front now : List X) → n ≤ count → count ≤ n
+      → now ≡ front ++ joined (map f (range_with_len 0 n)) → now ≡ front ++ joined (map f (range_with_len 0 count))
+  rows_end n count front now low high is = (let same : n
+      ≡ count = omega (arith, low, high) in subst (λ k. now ≡ front ++ joined (map f (range_with_len 0 k))) same is)

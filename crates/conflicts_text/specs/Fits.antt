@@ -7,6 +7,7 @@ TextWithin IsText HasLines room (Some text) = IsText text × (length text ≤ ro
 TextWithin IsText HasLines room None = (lines : List ℕ) × HasLines lines × (room < length lines)
 
 -- all rows; or some whose lines do not fit
-abbrev pub RowsWithin : {R : Type 0} → (All Few : List R → Type 0) → (List R → List ℕ) → ℕ → Option (List R) → Type 0
+abbrev pub RowsWithin : {R : Type 0} → (All Few : List R → Type 0) → (List R → List ℕ) → ℕ
+    → Option (List R) → Type 0
 RowsWithin {R} All Few lines room (Some rows) = All rows
 RowsWithin {R} All Few lines room None = (rows : List R) × Few rows × (room < length (lines rows))

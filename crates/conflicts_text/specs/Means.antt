@@ -11,7 +11,8 @@ use Rattle.entry_accesses.specs.Numbered.{AreNumbers}
 use Rattle.certificate_meaning.specs.Summaries.{AreSummaries}
 
 -- all are of the exchange
-pub record AreOf (x : Exchange) (table : FlowTable) (places : List PlaceAt) (numbers : CellNumbers) (summaries : List Summary) : Type 0 where
+pub record AreOf (x : Exchange) (table : FlowTable) (places : List PlaceAt) (numbers : CellNumbers)
+    (summaries : List Summary) : Type 0 where
   pub rows : IsFlowTable x table
   pub places_are : ArePlaces x (map seen places)
   pub numbers_are : AreNumbers x numbers

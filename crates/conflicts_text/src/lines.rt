@@ -1,7 +1,9 @@
 // The lines of points and of clashes.
-ghost use Rattle.std.specs.Prelude.{◌≡◌, ◌<◌, ◌++◌, nat_lt, Some, flat_map, length, slice_get, IfOk, OnOk};
+ghost use Rattle.std.specs.Prelude.{◌≡◌, ◌<◌, ◌++◌, nat_lt, Some, flat_map, length, slice_get};
+ghost use Rattle.std.specs.Prelude.{IfOk, OnOk};
 ghost use Rattle.std.specs.Fmt.{decimal};
-ghost use Rattle.conflicts_meaning.specs.Lines.{clash_text, later_words, limit_line, line_at as line_of_point, point_text};
+ghost use Rattle.conflicts_meaning.specs.Lines.{clash_text, later_words, limit_line};
+ghost use Rattle.conflicts_meaning.specs.Lines.{line_at as line_of_point, point_text};
 ghost use Rattle.conflicts_text.specs.Fits.{TextWithin};
 
 use conflicts_meaning::{Clash, ClashRow, EntryPair, GivenAt};

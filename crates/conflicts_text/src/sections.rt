@@ -2,7 +2,8 @@
 ghost use Rattle.std.specs.Prelude.{◌≡◌, ◌++◌, ◌&&◌, nat_eq, nat_lt, map, IfOk, OnOk, Some};
 ghost use Rattle.std.specs.List.{range_with_len};
 ghost use Rattle.conflicts_meaning.specs.declared.rows.Section.TheVariants as section;
-ghost use Rattle.conflicts_meaning.specs.Told.{all_sections, pair_row, pair_sections, sections as sections_of};
+ghost use Rattle.conflicts_meaning.specs.Told.{all_sections, pair_row, pair_sections};
+ghost use Rattle.conflicts_meaning.specs.Told.{sections as sections_of};
 
 use conflicts_meaning::{EntryPair, Section};
 use plex_num::{Memory, Seq};

@@ -3,7 +3,8 @@ ghost use Rattle.std.specs.Prelude.{◌≡◌, ◌<◌, ◌++◌, Some, length, 
 ghost use Rattle.least_facts.specs.Least.{IsFor};
 ghost use Rattle.analysis_text.specs.Pairs.{GainsText};
 ghost use Rattle.conflicts_meaning.specs.Lines.{last_line, limit_line};
-ghost use Rattle.conflicts_meaning.specs.Told.{HasEntryLines, HasPairLines, HasSectionLines, IsEntryText, IsPairText, IsSectionText, Told};
+ghost use Rattle.conflicts_meaning.specs.Told.{HasEntryLines, HasPairLines, HasSectionLines};
+ghost use Rattle.conflicts_meaning.specs.Told.{IsEntryText, IsPairText, IsSectionText, Told};
 ghost use Rattle.conflicts_text.specs.Fits.{TextWithin};
 ghost use Rattle.conflicts_text.specs.Means.{AreOf};
 ghost use Rattle.conflicts_text.specs.Within.{AllWithin, IsWithin};

@@ -1,5 +1,6 @@
 -- A job that may touch all words runs on them.
-use Rattle.std.proofs.Common.{◌≡◌, ℕ, ◌+◌, ◌*◌, ◌<◌, Bool, true, false, ◌||◌, List, [], ◌∷◌, Some, None, refl, sym, ap, ◌∙◌, subst, arith, if◌then◌else◌}
+use Rattle.std.proofs.Common.{◌≡◌, ℕ, ◌+◌, ◌*◌, ◌<◌, Bool, true, false, ◌||◌, List, [], ◌∷◌, Some}
+use Rattle.std.proofs.Common.{None, refl, sym, ap, ◌∙◌, subst, arith, if◌then◌else◌}
 use Rattle.std.specs.Prelude.{nat_lt}
 use Rattle.std.specs.List.{list_any}
 use Rattle.std.proofs.lemmas.Option.{none-some}
@@ -48,7 +49,8 @@ all_let p n is w lt =
 -- ## The next job
 
 -- the start of the next job may run on the stored words
-pub first_may_run : (x : Exchange) (b : Account) (words : List ℕ) (start : JobStart) → Some start ≡ upcoming b → words ≡ opening_store x.blocks → IsValid x (with_words b.state (opening_store x.blocks)) → MayRun x start words
+pub first_may_run : (x : Exchange) (b : Account) (words : List ℕ) (start : JobStart) → Some start ≡ upcoming b
+    → words ≡ opening_store x.blocks → IsValid x (with_words b.state (opening_store x.blocks)) → MayRun x start words
 first_may_run x b words start is words_are valid = record {
   state = with_words b.state (opening_store x.blocks);
   valid = valid;
@@ -61,7 +63,9 @@ first_may_run x b words start is words_are valid = record {
     next false same = absurd (none-some start (sym same))
 
 -- it is ready to run on a loan of all words
-pub ready_on_all : (x : Exchange) (code : Code) (store : StoreId) (root : RootView) (words : List ℕ) (start : JobStart) (p : Permit) (seat : JobView) (run : Private) (n : ℕ) → n ≡ x.cells → IsExchange x → MayRun x start words → p.writes ≡ record { first = 0; count = n; stride = 1 } ∷ []
+pub ready_on_all : (x : Exchange) (code : Code) (store : StoreId) (root : RootView) (words : List ℕ) (start : JobStart)
+    (p : Permit) (seat : JobView) (run : Private) (n : ℕ) → n ≡ x.cells → IsExchange x → MayRun x start words
+    → p.writes ≡ record { first = 0; count = n; stride = 1 } ∷ []
     → root ≡ (store, unlent words) → seat ≡ (root.0, borrower start p root.1) → run ≡ started code start → IsReady x code store seat run
 ready_on_all x code store root words start p seat run n count kept may all root_is seat_is run_is =
     subst (λ (z : JobView). IsReady x code store z run) (sym (seat_is ∙ ap (λ (r : RootView). (r.0, borrower start p r.1)) root_is)) (record {
@@ -73,7 +77,8 @@ ready_on_all x code store root words start p seat run n count kept may all root_
         valid = may.valid;
         fitting = may.fitting;
         store_is = may.store_is;
-        keeps = all_weaker (λ (t : Touch). touched_word t < x.cells) (MayMake (may_read p) (may_write p)) (trace_of x start words) may_make (touches_inside x kept start words);
+        keeps = all_weaker (λ (t : Touch). touched_word t < x.cells) (MayMake (may_read p) (may_write p))
+            (trace_of x start words) may_make (touches_inside x kept start words);
       };
     })
   where

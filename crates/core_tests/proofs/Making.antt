@@ -1,5 +1,6 @@
 -- What is made of texts.
-use Rattle.std.proofs.Common.{◌≡◌, ℕ, ◌≤◌, ◌<◌, ◌^◌, true, List, [], length, map, Result, Ok, Err, IfOk, refl, sym, subst, ap, ◌∙◌, arith}
+use Rattle.std.proofs.Common.{◌≡◌, ℕ, ◌≤◌, ◌<◌, ◌^◌, true, List, [], length, map, Result, Ok, Err}
+use Rattle.std.proofs.Common.{IfOk, refl, sym, subst, ap, ◌∙◌, arith}
 use Rattle.std.specs.List.Sorted.{IsStrictlySortedBy}
 use Rattle.std.proofs.Math.Nat.{le_trans}
 use Rattle.plex_limits.specs.declared.limits.TheConstants.{MOST_BYTES, MOST_WHENS}
@@ -34,12 +35,15 @@ use Rattle.certificate_text.specs.Lines.{IsTextOf}
 
 -- ## Trees
 
-pub trees_are_kept : {E : Type 0} (text : List ℕ) (tokens : List Token) (read : Result Tree E) → tokens_of text ≡ Ok tokens → IfOk read (λ t. Sentence t tokens) → IfOk read IsKept
+pub trees_are_kept : {E : Type 0} (text : List ℕ) (tokens : List Token) (read : Result Tree E)
+    → tokens_of text ≡ Ok tokens → IfOk read (λ t. Sentence t tokens) → IfOk read IsKept
 trees_are_kept text tokens (Ok t) lexed spelled = read_keeps true text tokens t lexed spelled
 trees_are_kept text tokens (Err e) lexed spelled = tt
 
-pub tree_has_few : (text : List ℕ) (tokens : List Token) (t : Tree) → length tokens ≤ length text → length text ≤ MOST_BYTES → Sentence t tokens → choices_in (exchange_of_tree t) ≤ MOST_WHENS
-tree_has_few text tokens t fewer small spelled = few_enough MOST_WHENS MOST_BYTES (choices_in (exchange_of_tree t)) (length tokens) (length text) (omega arith) ((tree_least t).long tokens spelled) fewer small
+pub tree_has_few : (text : List ℕ) (tokens : List Token) (t : Tree) → length tokens ≤ length text
+    → length text ≤ MOST_BYTES → Sentence t tokens → choices_in (exchange_of_tree t) ≤ MOST_WHENS
+tree_has_few text tokens t fewer small spelled = few_enough MOST_WHENS MOST_BYTES (choices_in (exchange_of_tree t))
+    (length tokens) (length text) (omega arith) ((tree_least t).long tokens spelled) fewer small
 
 -- ## Signal lines
 
@@ -56,12 +60,15 @@ told_rises text c is = is.fits.rises
 
 -- ## Books before the first job
 
-module _ (x : Exchange) (kept : IsExchange x) (lines : List Coming) (limit : ℕ) (fit : LinesFit x [] lines) (first b : Account) (opens : first ≡ opened lines limit) (arrived : b ≡ record first { state = arrivals x first.state }) where
+module _ (x : Exchange) (kept : IsExchange x) (lines : List Coming) (limit : ℕ) (fit : LinesFit x [] lines)
+    (first b : Account) (opens : first ≡ opened lines limit)
+    (arrived : b ≡ record first { state = arrivals x first.state }) where
   begins : RunStands x (with_words first.state (opening_store x.blocks)) first.limit 0 b (opening_store x.blocks)
   begins = stands_begin x first b (opening_store x.blocks) (nobody_runs lines limit first opens) arrived
 
   pub begins_valid : IsValid x (with_words b.state (opening_store x.blocks))
-  begins_valid = stands_valid x kept (with_words first.state (opening_store x.blocks)) first.limit (opens_valid x lines limit first (opening_store x.blocks) kept fit opens refl) 0 b (opening_store x.blocks) begins
+  begins_valid = stands_valid x kept (with_words first.state (opening_store x.blocks)) first.limit
+      (opens_valid x lines limit first (opening_store x.blocks) kept fit opens refl) 0 b (opening_store x.blocks) begins
 
   pub begins_quiet : arrivals x (with_words b.state (opening_store x.blocks)) ≡ with_words b.state (opening_store x.blocks)
   unfolding after

@@ -103,7 +103,8 @@ fn a_certificate_is_printed(rt: HostRuntime) -> Result<(), Fail> {
     Ok(())
 }
 
-/// The certificate of an exchange, but with its facts from the last to the first, and then all of them once more.
+/// The certificate of an exchange, but with its facts from the last to the first, and then all of
+/// them once more.
 fn turned(alloc: Global, exchange: &Exchange) -> Result<Certificate, NotMade> {
     let Certificate { shape, facts } = certificate_of(alloc, exchange)?;
     let mut copies = Seq::new(alloc);

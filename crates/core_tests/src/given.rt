@@ -1,6 +1,8 @@
-// What a test is given, made of texts: an exchange, signal lines, a checked certificate, and what stands after events.
+// What a test is given, made of texts: an exchange, signal lines, a checked certificate, and what
+// stands after events.
 ghost use Rattle.std.specs.Prelude.{◌≡◌, ◌<◌, ◌≤◌, ◌^◌, [], length, map, IfOk};
-ghost use Rattle.plex_limits.specs.declared.limits.TheConstants.{MOST_BYTES, MOST_TOKENS, MOST_WHENS};
+ghost use Rattle.plex_limits.specs.declared.limits.TheConstants.{MOST_BYTES, MOST_TOKENS};
+ghost use Rattle.plex_limits.specs.declared.limits.TheConstants.{MOST_WHENS};
 ghost use Rattle.plex_ast.specs.Grammar.{Sentence};
 ghost use Rattle.kept_trees.specs.Keeps.{IsKept};
 ghost use Rattle.resolved_block.specs.Texts.{choices_in, exchange_of_tree};

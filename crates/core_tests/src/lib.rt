@@ -1,7 +1,8 @@
 // What no clause says of jobs that run at once: on small exchanges, which jobs may follow which,
 // and which events are allowed; and that calls which no command makes do answer.
 //
-// Nothing comes out. These tests make each exchange of its text, so they stand on the crates from the lexer to the core.
+// Nothing comes out. These tests make each exchange of its text, so they stand on the crates from
+// the lexer to the core.
 #![tactic(auto)]
 
 #[cfg(test)]

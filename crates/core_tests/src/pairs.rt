@@ -10,7 +10,8 @@ use run_books::Books;
 use std::alloc::Global;
 use std::test::Fail;
 
-/// The places of two jobs in a list, the first in the single run and the later one, and whether they may run at once.
+/// The places of two jobs in a list, the first in the single run and the later one, and whether
+/// they may run at once.
 type Pair = (usize, usize, bool);
 
 /// The jobs of these lines, in the order in which they begin.
@@ -150,8 +151,8 @@ fn holding(start: &JobStart, held: Held) -> JobStart {
     }
 }
 
-/// Whether the first job may follow the third where the forlopp of the third holds a record of LINE; `None` where one of them is
-/// not there.
+/// Whether the first job may follow the third where the forlopp of the third holds a record of
+/// LINE; `None` where one of them is not there.
 fn first_follows_holder(checked: &Checked, starts: &[JobStart]) -> Option<bool> {
     let (call, digit) = (starts.get(0)?, starts.get(2)?);
     let holder = holding(digit, Held { file: 0, number: 1 });

@@ -4,7 +4,9 @@ use Rattle.plex_lexer.specs.declared.token.Token.{Token}
 use Rattle.token_grammar.specs.declared.named.Named.{Named}
 use Rattle.token_grammar.specs.declared.named.Numbered.{Numbered}
 use Rattle.token_grammar.specs.Language.{Lang, word, ◌·◌, each, maybe, flag, named, numbered, NAME}
-use Rattle.token_grammar.proofs.Exact.{Exact, Exact-word, Exact-pair, Exact-same, Exact-lined, Exact-branch, Exact-many, Exact-after, Exact-ended, Exact-optional, Exact-flag, Either, Lined}
+use Rattle.token_grammar.proofs.Exact.{Exact, Exact-word, Exact-pair, Exact-same, Exact-lined}
+use Rattle.token_grammar.proofs.Exact.{Exact-branch, Exact-many, Exact-after, Exact-ended}
+use Rattle.token_grammar.proofs.Exact.{Exact-optional, Exact-flag, Either, Lined}
 use Rattle.token_grammar.proofs.Words.{a_keyword, a_mark, Exact-name, Exact-number}
 use Rattle.plex_ast.specs.declared.block.Survey.{Survey}
 use Rattle.plex_ast.specs.declared.block.SurveyKind.{SurveyKind}
@@ -13,9 +15,15 @@ use Rattle.plex_ast.specs.declared.block.Decl.{Decl}
 use Rattle.plex_ast.specs.declared.block.DeclKind.{DeclKind}
 use Rattle.plex_ast.specs.declared.block.DeclKind.TheVariants as decls
 use Rattle.plex_ast.specs.declared.block.Field.{Field}
-use Rattle.plex_ast.specs.Words.{DECLARE, VARIABLE, TEMPORARY, FILE, FORLOPP, FIELD, WIDTH, SIZE, INIT, CLEAR, SURVEY, RECEIVE, SEND, SEMI}
+use Rattle.plex_ast.specs.Words.{DECLARE, VARIABLE, TEMPORARY, FILE, FORLOPP, FIELD, WIDTH, SIZE}
+use Rattle.plex_ast.specs.Words.{INIT, CLEAR, SURVEY, RECEIVE, SEND, SEMI}
 use Rattle.plex_ast.specs.Grammar.{survey_at, survey, init, field, decl_at, decl}
-use Rattle.declaration_parser.specs.Declarations.{survey_kind_read, survey_made, survey_read, init_read, Width, width_read, field_made, field_read, clear_read, variable_made, variable_read, temporary_read, forlopp_read, file_made, file_read, decl_kind_read, decl_made, decl_read, DECL, surveys_read, decls_read}
+use Rattle.declaration_parser.specs.Declarations.{survey_kind_read, survey_made, survey_read}
+use Rattle.declaration_parser.specs.Declarations.{init_read, Width, width_read, field_made}
+use Rattle.declaration_parser.specs.Declarations.{field_read, clear_read, variable_made}
+use Rattle.declaration_parser.specs.Declarations.{variable_read, temporary_read, forlopp_read}
+use Rattle.declaration_parser.specs.Declarations.{file_made, file_read, decl_kind_read, decl_made}
+use Rattle.declaration_parser.specs.Declarations.{decl_read, DECL, surveys_read, decls_read}
 
 -- declarations
 
@@ -28,7 +36,8 @@ HasWidth p = named true p.0 · (word WIDTH · (numbered true p.1.0 · (maybe (in
 
 Exact-width : Exact HasWidth HasWidth NAME false [] width_read width_read
 unfolding width_read
-Exact-width = Exact-pair Exact-name (Exact-after WIDTH (a_keyword 15) refl (Exact-pair Exact-number (Exact-ended SEMI (a_mark 0) refl Exact-init refl) refl)) refl
+Exact-width = Exact-pair Exact-name (Exact-after WIDTH (a_keyword 15) refl
+    (Exact-pair Exact-number (Exact-ended SEMI (a_mark 0) refl Exact-init refl) refl)) refl
 
 pub Exact-field : Exact (field true) (field true) FIELD false [] field_read field_read
 unfolding field_read
@@ -42,7 +51,8 @@ Exact-field = Exact-same (field true) (field true) to from to (Exact-lined field
 
 Exact-clear : Exact (flag (word CLEAR)) (flag (word CLEAR)) CLEAR true CLEAR clear_read clear_read
 unfolding clear_read
-Exact-clear = Exact-flag CLEAR (word CLEAR) (λ t u h. (t, h.0, h.1)) (λ t u h. (t, h.0, h.1)) (λ u h. (h.0, (h.1, h.2))) (Exact-word CLEAR (a_keyword 55) refl) refl
+Exact-clear = Exact-flag CLEAR (word CLEAR) (λ t u h. (t, h.0, h.1)) (λ t u h. (t, h.0, h.1)) (λ u h. (h.0, (h.1, h.2)))
+    (Exact-word CLEAR (a_keyword 55) refl) refl
 
 -- a variable: its name and its width, and whether it is cleared
 abbrev Variable : Named × (Numbered × (Option Numbered × Bool)) → Lang
@@ -50,7 +60,8 @@ Variable p = word VARIABLE · (named true p.0 · (word WIDTH · (numbered true p
 
 Exact-forlopp : Exact (flag (word FORLOPP)) (flag (word FORLOPP)) FORLOPP true FORLOPP forlopp_read forlopp_read
 unfolding forlopp_read
-Exact-forlopp = Exact-flag FORLOPP (word FORLOPP) (λ t u h. (t, h.0, h.1)) (λ t u h. (t, h.0, h.1)) (λ u h. (h.0, (h.1, h.2))) (Exact-word FORLOPP (a_keyword 13) refl) refl
+Exact-forlopp = Exact-flag FORLOPP (word FORLOPP) (λ t u h. (t, h.0, h.1)) (λ t u h. (t, h.0, h.1))
+    (λ u h. (h.0, (h.1, h.2))) (Exact-word FORLOPP (a_keyword 13) refl) refl
 
 abbrev File : Type 0
 File = Bool × (Named × (Numbered × List Field))
@@ -68,8 +79,12 @@ Exact-decl-kind = Exact-same (decl_at true) (decl_at true) to from to
     (Exact-branch VARIABLE
     (Exact-lined variable_made (Exact-after VARIABLE (a_keyword 10) refl (Exact-pair Exact-name (Exact-after WIDTH (a_keyword 15) refl
     (Exact-pair Exact-number (Exact-pair Exact-init (Exact-ended SEMI (a_mark 0) refl Exact-clear refl) refl) refl)) refl)))
-    (Exact-branch TEMPORARY (Exact-lined (λ _ (n : Named). decls.Temporary n) (Exact-after TEMPORARY (a_keyword 11) refl (Exact-ended SEMI (a_mark 0) refl Exact-name refl)))
-    (Exact-lined file_made (Exact-pair Exact-forlopp (Exact-after FILE (a_keyword 12) refl (Exact-pair Exact-name (Exact-after SIZE (a_keyword 16) refl (Exact-pair Exact-number (Exact-after SEMI (a_mark 0) refl (Exact-many Exact-field refl)) refl)) refl)) refl))
+    (Exact-branch TEMPORARY (Exact-lined (λ _ (n : Named). decls.Temporary n)
+    (Exact-after TEMPORARY (a_keyword 11) refl (Exact-ended SEMI (a_mark 0) refl Exact-name refl)))
+    (Exact-lined file_made (Exact-pair Exact-forlopp
+    (Exact-after FILE (a_keyword 12) refl (Exact-pair Exact-name
+    (Exact-after SIZE (a_keyword 16) refl (Exact-pair Exact-number
+    (Exact-after SEMI (a_mark 0) refl (Exact-many Exact-field refl)) refl)) refl)) refl))
     refl refl) refl refl)
   where
     to : (x : DeclKind) (u : List Token) → Decls x u → decl_at true x u
@@ -102,12 +117,14 @@ Exact-decls = Exact-after DECLARE (a_keyword 9) refl (Exact-after SEMI (a_mark 0
 -- surveys
 
 abbrev Surveys : SurveyKind → Lang
-Surveys = Either (Lined (λ _ (n : Named). surveys.Receive n) (λ n. word RECEIVE · (named true n · word SEMI))) (Lined (λ _ (n : Named). surveys.Send n) (λ n. word SEND · (named true n · word SEMI)))
+Surveys = Either (Lined (λ _ (n : Named). surveys.Receive n) (λ n. word RECEIVE · (named true n · word SEMI)))
+    (Lined (λ _ (n : Named). surveys.Send n) (λ n. word SEND · (named true n · word SEMI)))
 
 Exact-survey-kind : Exact (survey_at true) (survey_at true) (RECEIVE ++ SEND) false [] survey_kind_read survey_kind_read
 unfolding survey_kind_read
 Exact-survey-kind = Exact-same (survey_at true) (survey_at true) to from to
-    (Exact-branch RECEIVE (Exact-lined (λ _ (n : Named). surveys.Receive n) (Exact-after RECEIVE (a_keyword 19) refl (Exact-ended SEMI (a_mark 0) refl Exact-name refl)))
+    (Exact-branch RECEIVE (Exact-lined (λ _ (n : Named). surveys.Receive n)
+    (Exact-after RECEIVE (a_keyword 19) refl (Exact-ended SEMI (a_mark 0) refl Exact-name refl)))
     (Exact-lined (λ _ (n : Named). surveys.Send n) (Exact-after SEND (a_keyword 20) refl (Exact-ended SEMI (a_mark 0) refl Exact-name refl))) refl refl)
   where
     to : (x : SurveyKind) (u : List Token) → Surveys x u → survey_at true x u

@@ -2,7 +2,8 @@
 use Rattle.std.specs.Prelude.{ℕ, Bool, List, ◌++◌, Option}
 use Rattle.token_grammar.specs.declared.named.Named.{Named}
 use Rattle.token_grammar.specs.declared.named.Numbered.{Numbered}
-use Rattle.token_grammar.specs.Reading.{Reader, word_of, many, branch, lined, after, ended, pair, optional, flag_read, name_read, number_read}
+use Rattle.token_grammar.specs.Reading.{Reader, word_of, many, branch, lined, after, ended, pair}
+use Rattle.token_grammar.specs.Reading.{optional, flag_read, name_read, number_read}
 use Rattle.plex_ast.specs.declared.block.Survey.{Survey}
 use Rattle.plex_ast.specs.declared.block.SurveyKind.{SurveyKind}
 use Rattle.plex_ast.specs.declared.block.SurveyKind.TheVariants as surveys
@@ -10,7 +11,8 @@ use Rattle.plex_ast.specs.declared.block.Decl.{Decl}
 use Rattle.plex_ast.specs.declared.block.DeclKind.{DeclKind}
 use Rattle.plex_ast.specs.declared.block.DeclKind.TheVariants as decls
 use Rattle.plex_ast.specs.declared.block.Field.{Field}
-use Rattle.plex_ast.specs.Words.{DECLARE, VARIABLE, TEMPORARY, FILE, FORLOPP, FIELD, WIDTH, SIZE, INIT, CLEAR, SURVEY, RECEIVE, SEND, SEMI}
+use Rattle.plex_ast.specs.Words.{DECLARE, VARIABLE, TEMPORARY, FILE, FORLOPP, FIELD, WIDTH, SIZE}
+use Rattle.plex_ast.specs.Words.{INIT, CLEAR, SURVEY, RECEIVE, SEND, SEMI}
 
 -- declarations
 
@@ -77,7 +79,9 @@ decls_read = after DECLARE (after SEMI (many DECL decl_read))
 -- surveys
 
 unfoldable pub survey_kind_read : Reader SurveyKind
-survey_kind_read = branch RECEIVE (lined (λ _ (n : Named). surveys.Receive n) (after RECEIVE (ended name_read SEMI))) (lined (λ _ (n : Named). surveys.Send n) (after SEND (ended name_read SEMI)))
+survey_kind_read = branch RECEIVE (lined (λ _ (n : Named). surveys.Receive n)
+    (after RECEIVE (ended name_read SEMI))) (lined (λ _ (n : Named). surveys.Send n)
+    (after SEND (ended name_read SEMI)))
 
 abbrev pub survey_made : ℕ → SurveyKind → Survey
 survey_made line k = record { line = line; kind = k }

@@ -3,18 +3,21 @@ use Rattle.std.specs.Prelude.{ℕ}
 use Rattle.token_grammar.specs.declared.named.Named.{Named}
 use Rattle.token_grammar.specs.declared.named.Numbered.{Numbered}
 use Rattle.token_grammar.specs.declared.named.Leveled.{Leveled}
-use Rattle.token_grammar.specs.Reading.{Reader, branch, lined, after, ended, pair, name_read, number_read, level_read}
+use Rattle.token_grammar.specs.Reading.{Reader, branch, lined, after, ended, pair, name_read}
+use Rattle.token_grammar.specs.Reading.{number_read, level_read}
 use Rattle.plex_ast.specs.declared.tree.Signal.{Signal}
 use Rattle.plex_ast.specs.declared.tree.Shape.{Shape}
 use Rattle.plex_ast.specs.declared.tree.ShapeKind.{ShapeKind}
 use Rattle.plex_ast.specs.declared.tree.ShapeKind.TheVariants as shapes
-use Rattle.plex_ast.specs.Words.{SIGNAL, SINGLE, COMBINED, BUFFERED, DIRECT, OUTSIDE, DATA, ANSWER, SEMI}
+use Rattle.plex_ast.specs.Words.{SIGNAL, SINGLE, COMBINED, BUFFERED, DIRECT, OUTSIDE, DATA, ANSWER}
+use Rattle.plex_ast.specs.Words.{SEMI}
 
 unfoldable pub data_read : Reader Numbered
 data_read = after DATA number_read
 
 unfoldable pub buffered_read : Reader ShapeKind
-buffered_read = lined (λ _ (p : Leveled × Numbered). shapes.Buffered p.0 p.1) (after BUFFERED (pair level_read data_read))
+buffered_read = lined (λ _ (p : Leveled × Numbered). shapes.Buffered p.0 p.1)
+    (after BUFFERED (pair level_read data_read))
 
 unfoldable pub direct_read : Reader ShapeKind
 direct_read = lined (λ _ (n : Numbered). shapes.Direct n) (after DIRECT data_read)
@@ -23,7 +26,8 @@ unfoldable pub single_read : Reader ShapeKind
 single_read = after SINGLE (branch BUFFERED buffered_read direct_read)
 
 unfoldable pub combined_read : Reader ShapeKind
-combined_read = lined (λ _ (p : Numbered × (Named × Numbered)). shapes.Combined p.0 p.1.0 p.1.1) (after COMBINED (pair data_read (after ANSWER (pair name_read data_read))))
+combined_read = lined (λ _ (p : Numbered × (Named × Numbered)). shapes.Combined p.0 p.1.0 p.1.1)
+    (after COMBINED (pair data_read (after ANSWER (pair name_read data_read))))
 
 unfoldable pub outside_read : Reader ShapeKind
 outside_read = lined (λ _ (n : Numbered). shapes.Outside n) (after OUTSIDE data_read)

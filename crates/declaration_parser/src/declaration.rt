@@ -3,7 +3,11 @@ ghost use Rattle.std.specs.Prelude.{◌≡◌, ◌++◌};
 ghost use Rattle.plex_lexer.specs.Cursors.{ahead};
 ghost use Rattle.token_grammar.specs.Gives.{Reads};
 ghost use Rattle.token_grammar.specs.Reading.{at, many};
-ghost use Rattle.declaration_parser.specs.Declarations.{clear_read, decl_kind_read, decl_read, decls_read, field_read, file_read, forlopp_read, init_read, opened_read, records_read, stored_read, temporary_read, variable_read, width_read, DECL};
+ghost use Rattle.declaration_parser.specs.Declarations.{clear_read, decl_kind_read, decl_read};
+ghost use Rattle.declaration_parser.specs.Declarations.{decls_read, field_read, file_read};
+ghost use Rattle.declaration_parser.specs.Declarations.{forlopp_read, init_read, opened_read};
+ghost use Rattle.declaration_parser.specs.Declarations.{records_read, stored_read, temporary_read};
+ghost use Rattle.declaration_parser.specs.Declarations.{variable_read, width_read, DECL};
 ghost use Rattle.plex_ast.specs.Words as classes;
 
 use plex_ast::{Decl, DeclKind, Field, Numbered, words};

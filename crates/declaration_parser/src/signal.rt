@@ -2,7 +2,9 @@
 ghost use Rattle.std.specs.Prelude.{◌≡◌};
 ghost use Rattle.token_grammar.specs.Gives.{Reads};
 ghost use Rattle.token_grammar.specs.Reading.{many};
-ghost use Rattle.declaration_parser.specs.Signals.{buffered_read, combined_read, data_read, direct_read, outside_read, shape_kind_read, shape_read, signal_read, single_read};
+ghost use Rattle.declaration_parser.specs.Signals.{buffered_read, combined_read, data_read};
+ghost use Rattle.declaration_parser.specs.Signals.{direct_read, outside_read, shape_kind_read};
+ghost use Rattle.declaration_parser.specs.Signals.{shape_read, signal_read, single_read};
 ghost use Rattle.plex_ast.specs.Words as classes;
 
 use plex_ast::{Numbered, Shape, ShapeKind, Signal, words};

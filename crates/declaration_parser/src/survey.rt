@@ -3,7 +3,8 @@ ghost use Rattle.std.specs.Prelude.{◌≡◌, ◌++◌};
 ghost use Rattle.plex_lexer.specs.Cursors.{ahead};
 ghost use Rattle.token_grammar.specs.Gives.{Reads};
 ghost use Rattle.token_grammar.specs.Reading.{at, many};
-ghost use Rattle.declaration_parser.specs.Declarations.{survey_kind_read, survey_read, surveys_read};
+ghost use Rattle.declaration_parser.specs.Declarations.{survey_kind_read, survey_read};
+ghost use Rattle.declaration_parser.specs.Declarations.{surveys_read};
 ghost use Rattle.plex_ast.specs.Words as classes;
 
 use plex_ast::{Survey, SurveyKind, words};

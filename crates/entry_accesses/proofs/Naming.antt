@@ -1,5 +1,6 @@
 -- What expressions name, layer by layer and one after the other.
-use Rattle.std.proofs.Common.{◌≡◌, ℕ, ◌+◌, ◌<◌, ◌≤◌, List, [], ◌∷◌, ◌++◌, length, map, drop, get_or, Bool, Option, refl, sym, ap, ◌∙◌, subst, append_assoc, append-nil}
+use Rattle.std.proofs.Common.{◌≡◌, ℕ, ◌+◌, ◌<◌, ◌≤◌, List, [], ◌∷◌, ◌++◌, length, map, drop, get_or}
+use Rattle.std.proofs.Common.{Bool, Option, refl, sym, ap, ◌∙◌, subst, append_assoc, append-nil}
 use Rattle.std.proofs.Math.ListN.{drop_of_length-le}
 use Rattle.std.proofs.lemmas.List.{map-append}
 use Rattle.plex_num.proofs.Lists.{opens}
@@ -20,8 +21,11 @@ use Rattle.exchange_model.specs.declared.stmt.StmtKind.TheVariants as kind
 use Rattle.exchange_model.specs.Inside.{joined, relation_exprs}
 use Rattle.exchange_model.proofs.Layers.{same_kind}
 use Rattle.exchange_model.proofs.Lists.{joined_append}
-use Rattle.source_meaning.specs.Named.{Layer, Named, NamedVariable, NamedField, named_in, named_in_term, named_in_factor, named_in_joined}
-use Rattle.source_meaning.proofs.Naming.{named_in-out, named_in_term-out, named-Variable, named-Field, named-Bracket, named-Number, named-Temporary, named-Reference}
+use Rattle.source_meaning.specs.Named.{Layer, Named, NamedVariable, NamedField, named_in}
+use Rattle.source_meaning.specs.Named.{named_in_term, named_in_factor, named_in_joined}
+use Rattle.source_meaning.proofs.Naming.{named_in-out, named_in_term-out, named-Variable}
+use Rattle.source_meaning.proofs.Naming.{named-Field, named-Bracket, named-Number, named-Temporary}
+use Rattle.source_meaning.proofs.Naming.{named-Reference}
 use Rattle.entry_accesses.specs.declared.operands.Operand.{Operand}
 use Rattle.entry_accesses.specs.Operands.{HasNames, named, names_in, relation_names, layer_names}
 
@@ -33,7 +37,8 @@ pub record NamesGo {A : Type 0} (f : A → List Named) (xs : List A) (i : ℕ) (
 pub names_begin : {A : Type 0} (f : A → List Named) (xs : List A) (old : List Operand) → NamesGo f xs 0 old old
 names_begin f xs old = record { same = refl }
 
-pub names_more : {A : Type 0} (f : A → List Named) (xs : List A) (i : ℕ) (x : A) (old now new : List Operand) → i < length xs → x ≡ get_or xs i x → HasNames now new (f x) → NamesGo f xs i old now → NamesGo f xs (i + 1) old new
+pub names_more : {A : Type 0} (f : A → List Named) (xs : List A) (i : ℕ) (x : A) (old now new : List Operand)
+    → i < length xs → x ≡ get_or xs i x → HasNames now new (f x) → NamesGo f xs i old now → NamesGo f xs (i + 1) old new
 names_more f xs i x old now new lt is h g = record {
   same =
       ap (λ l. l ++ joined (map f (drop (i + 1) xs))) h.is
@@ -42,7 +47,8 @@ names_more f xs i x old now new lt is h g = record {
       ∙ g.same;
 }
 
-pub names_end : {A : Type 0} (f : A → List Named) (xs : List A) (i : ℕ) (old now : List Operand) → length xs ≤ i → NamesGo f xs i old now → HasNames old now (joined (map f xs))
+pub names_end : {A : Type 0} (f : A → List Named) (xs : List A) (i : ℕ) (old now : List Operand) → length xs ≤ i
+    → NamesGo f xs i old now → HasNames old now (joined (map f xs))
 names_end f xs i old now past g = record {
   is = sym (append-nil (map named now)) ∙ sym (ap (λ l. map named now ++ joined (map f l)) (drop_of_length-le xs past)) ∙ g.same;
 }
@@ -61,7 +67,8 @@ no_names old = record { is = sym (append-nil (map named old)) }
 pub alone_named : (e : Expr) (old new : List Operand) → HasNames old new (named_in e) → HasNames old new (names_in (e ∷ []))
 alone_named e old new h = names_as old new (named_in e) (names_in (e ∷ [])) (sym (append-nil (named_in e))) h
 
-pub both_named : (e f : Expr) (old mid new : List Operand) → HasNames old mid (named_in e) → HasNames mid new (named_in f) → HasNames old new (names_in (e ∷ f ∷ []))
+pub both_named : (e f : Expr) (old mid new : List Operand) → HasNames old mid (named_in e)
+    → HasNames mid new (named_in f) → HasNames old new (names_in (e ∷ f ∷ []))
 both_named e f old mid new g h = record {
   is =
       h.is
@@ -91,20 +98,27 @@ choices_are [] = refl
 choices_are (rs ∷ rss) =
     ap (λ l. relation_names rs ++ l) (choices_are rss) ∙ sym (names_append (relation_exprs rs) (joined (map relation_exprs rss)))
 
-pub choices_end : (rss : List (List Relation)) (i : ℕ) (old now : List Operand) → length rss ≤ i → NamesGo relation_names rss i old now → HasNames old now (names_in (joined (map relation_exprs rss)))
+pub choices_end : (rss : List (List Relation)) (i : ℕ) (old now : List Operand) → length rss ≤ i
+    → NamesGo relation_names rss i old now → HasNames old now (names_in (joined (map relation_exprs rss)))
 choices_end rss i old now past g =
-    names_as old now (joined (map relation_names rss)) (names_in (joined (map relation_exprs rss))) (choices_are rss) (names_end relation_names rss i old now past g)
+    names_as old now (joined (map relation_names rss)) (names_in (joined (map relation_exprs rss))) (choices_are rss)
+    (names_end relation_names rss i old now past g)
 
-pub choices_more : (rss : List (List Relation)) (i : ℕ) (rs given : List Relation) (old now new : List Operand) → i < length rss → rs ≡ get_or rss i rs → given ≡ rs → HasNames now new (relation_names given) → NamesGo relation_names rss i old now → NamesGo relation_names rss (i + 1) old new
-choices_more rss i rs given old now new lt is same h g = names_more relation_names rss i rs old now new lt is (subst (λ l. HasNames now new (relation_names l)) same h) g
+pub choices_more : (rss : List (List Relation)) (i : ℕ) (rs given : List Relation) (old now new : List Operand)
+    → i < length rss → rs ≡ get_or rss i rs → given ≡ rs → HasNames now new (relation_names given)
+    → NamesGo relation_names rss i old now → NamesGo relation_names rss (i + 1) old new
+choices_more rss i rs given old now new lt is same h g = names_more relation_names rss i rs old now new lt is
+    (subst (λ l. HasNames now new (relation_names l)) same h) g
 
 -- layers of expressions
 
-pub expr_named : (e : Expr) (terms : List Term) (old new : List Operand) → terms ≡ (out-Expr e).terms → HasNames old new (joined (map named_in_term terms)) → HasNames old new (named_in e)
+pub expr_named : (e : Expr) (terms : List Term) (old new : List Operand) → terms ≡ (out-Expr e).terms
+    → HasNames old new (joined (map named_in_term terms)) → HasNames old new (named_in e)
 expr_named e terms old new same h =
     names_as old new (joined (map named_in_term terms)) (named_in e) (ap (λ l. joined (map named_in_term l)) same ∙ sym (named_in-out e)) h
 
-pub term_named : (t : Term) (factors : List Joined) (old new : List Operand) → factors ≡ (out-Term t).factors → HasNames old new (joined (map named_in_joined factors)) → HasNames old new (named_in_term t)
+pub term_named : (t : Term) (factors : List Joined) (old new : List Operand) → factors ≡ (out-Term t).factors
+    → HasNames old new (joined (map named_in_joined factors)) → HasNames old new (named_in_term t)
 term_named t factors old new same h =
     names_as old new (joined (map named_in_joined factors)) (named_in_term t) (ap (λ l. joined (map named_in_joined l)) same ∙ sym (named_in_term-out t)) h
 
@@ -126,11 +140,13 @@ temporary_named f t is = sym (ap named_in_factor is ∙ named-Temporary t)
 pub reference_named : (f : Factor) (b : ℕ) → f ≡ factor.Reference b → [] ≡ named_in_factor f
 reference_named f b is = sym (ap named_in_factor is ∙ named-Reference b)
 
-pub factor_as : (f : Factor) (names : List Named) (old new : List Operand) → names ≡ named_in_factor f → HasNames old new names → HasNames old new (named_in_factor f)
+pub factor_as : (f : Factor) (names : List Named) (old new : List Operand) → names ≡ named_in_factor f
+    → HasNames old new names → HasNames old new (named_in_factor f)
 factor_as f names old new same h = names_as old new names (named_in_factor f) same h
 
 -- a statement, by its layer
-pub layer_as : (k : StmtKind) (l : Layer) (old new : List Operand) → out-StmtKind k ≡ l → HasNames old new (layer_names l) → HasNames old new (layer_names (out-StmtKind k))
+pub layer_as : (k : StmtKind) (l : Layer) (old new : List Operand) → out-StmtKind k ≡ l
+    → HasNames old new (layer_names l) → HasNames old new (layer_names (out-StmtKind k))
 layer_as k l old new is h = subst (λ (m : Layer). HasNames old new (layer_names m)) (sym is) h
 
 -- a statement with no expression of its own

@@ -1,5 +1,7 @@
 -- The numbers of variables and fields, as they are summed up.
-use Rattle.std.proofs.Common.{◌≡◌, ℕ, zero, suc, ◌+◌, ◌<◌, ◌≤◌, ◌*◌, ◌^◌, List, [], ◌∷◌, ◌++◌, length, map, take, drop, get_or, sum_by, Some, slice_get, refl, sym, ap, ◌∙◌, arith, append_assoc, append-nil, suc-mul}
+use Rattle.std.proofs.Common.{◌≡◌, ℕ, zero, suc, ◌+◌, ◌<◌, ◌≤◌, ◌*◌, ◌^◌, List, [], ◌∷◌, ◌++◌}
+use Rattle.std.proofs.Common.{length, map, take, drop, get_or, sum_by, Some, slice_get, refl, sym}
+use Rattle.std.proofs.Common.{ap, ◌∙◌, arith, append_assoc, append-nil, suc-mul}
 use Rattle.std.specs.List.{AllByRecursion}
 use Rattle.std.proofs.Math.ListN.{drop_of_length-le}
 use Rattle.std.proofs.lemmas.List.{map-append, length-map}
@@ -10,14 +12,17 @@ use Rattle.plex_num.proofs.Lists.{opens, all_from}
 use Rattle.exchange_model.specs.declared.exchange.Exchange.{Exchange}
 use Rattle.exchange_model.specs.declared.block.Block.{Block}
 use Rattle.exchange_model.specs.declared.block.File.{File}
-use Rattle.exchange_model.specs.Cells.{record_cells, file_cells, block_cells, cell_count, placed_in, placed_from, placed_files}
+use Rattle.exchange_model.specs.Cells.{record_cells, file_cells, block_cells, cell_count, placed_in}
+use Rattle.exchange_model.specs.Cells.{placed_from, placed_files}
 use Rattle.exchange_model.specs.Inside.{total}
 use Rattle.exchange_model.specs.Kept.{IsExchange, FileFits}
 use Rattle.exchange_model.proofs.Facts.{cells_few}
 use Rattle.source_meaning.specs.Config.{files_of}
 use Rattle.source_meaning.specs.Named.{NamedVariable, NamedField}
 use Rattle.entry_accesses.specs.declared.numbers.CellNumbers.{CellNumbers}
-use Rattle.entry_accesses.specs.Numbered.{variable_count, field_count, placed_count, first_variable, first_field, AreFirsts, AreNumbers, HasNumber, IsNumbered, sums_from, field_counts}
+use Rattle.entry_accesses.specs.Numbered.{variable_count, field_count, placed_count, first_variable}
+use Rattle.entry_accesses.specs.Numbered.{first_field, AreFirsts, AreNumbers, HasNumber, IsNumbered}
+use Rattle.entry_accesses.specs.Numbered.{sums_from, field_counts}
 
 -- sums
 
@@ -65,10 +70,14 @@ sums_begin f xs start old = record { all = refl; sum = refl }
 pub sums_new : {A : Type 0} (f : A → ℕ) (xs : List A) (now : List ℕ) → now ≡ [] → SumsGo f xs 0 0 0 [] now
 sums_new f xs now none = record { all = ap (λ l. l ++ sums_from 0 (map f xs)) none; sum = refl }
 
-left : {A : Type 0} (f : A → ℕ) (xs : List A) (i first start : ℕ) (x : A) (old now : List ℕ) → i < length xs → x ≡ get_or xs i x → SumsGo f xs i first start old now → first + (f x + total (map f (drop (i + 1) xs))) ≡ start + total (map f xs)
+left : {A : Type 0} (f : A → ℕ) (xs : List A) (i first start : ℕ) (x : A) (old now : List ℕ) → i < length xs
+    → x ≡ get_or xs i x → SumsGo f xs i first start old now
+    → first + (f x + total (map f (drop (i + 1) xs))) ≡ start + total (map f xs)
 left f xs i first start x old now lt is g = ap (λ l. first + total (map f l)) (sym (opens xs i x lt is)) ∙ g.sum
 
-pub sums_more : {A : Type 0} (f : A → ℕ) (xs : List A) (i first start next n : ℕ) (x : A) (old now new : List ℕ) → i < length xs → x ≡ get_or xs i x → n ≡ f x → next ≡ first + n → new ≡ now ++ first ∷ [] → SumsGo f xs i first start old now → SumsGo f xs (i + 1) next start old new
+pub sums_more : {A : Type 0} (f : A → ℕ) (xs : List A) (i first start next n : ℕ) (x : A) (old now new : List ℕ)
+    → i < length xs → x ≡ get_or xs i x → n ≡ f x → next ≡ first + n → new ≡ now ++ first ∷ []
+    → SumsGo f xs i first start old now → SumsGo f xs (i + 1) next start old new
 sums_more f xs i first start next n x old now new lt is count step made g = record {
   all =
       (let at : next ≡ first + f x = step ∙ ap (λ m. first + m) count in
@@ -80,17 +89,22 @@ sums_more f xs i first start next n x old now new lt is count step made g = reco
   sum = (let s = left f xs i first start x old now lt is g in omega (arith, s, step, count));
 }
 
-pub sums_small : {A : Type 0} (f : A → ℕ) (xs : List A) (i first start n : ℕ) (x : A) (old now : List ℕ) → i < length xs → x ≡ get_or xs i x → n ≡ f x → start + total (map f xs) < 2 ^ 32 → SumsGo f xs i first start old now → first + n < 2 ^ 32
+pub sums_small : {A : Type 0} (f : A → ℕ) (xs : List A) (i first start n : ℕ) (x : A) (old now : List ℕ) → i < length xs
+    → x ≡ get_or xs i x → n ≡ f x → start + total (map f xs) < 2 ^ 32 → SumsGo f xs i first start old now
+    → first + n < 2 ^ 32
 sums_small f xs i first start n x old now lt is count small g = (let s = left f xs i first start x old now lt is g in omega (arith, s, count, small))
 
 -- the same from the number 0 on
-pub sums_small_new : {A : Type 0} (f : A → ℕ) (xs : List A) (i first n : ℕ) (x : A) (old now : List ℕ) → i < length xs → x ≡ get_or xs i x → n ≡ f x → total (map f xs) < 2 ^ 32 → SumsGo f xs i first 0 old now → first + n < 2 ^ 32
+pub sums_small_new : {A : Type 0} (f : A → ℕ) (xs : List A) (i first n : ℕ) (x : A) (old now : List ℕ) → i < length xs
+    → x ≡ get_or xs i x → n ≡ f x → total (map f xs) < 2 ^ 32 → SumsGo f xs i first 0 old now → first + n < 2 ^ 32
 sums_small_new f xs i first n x old now lt is count small g = (let s = left f xs i first 0 x old now lt is g in omega (arith, s, count, small))
 
-pub sums_end : {A : Type 0} (f : A → ℕ) (xs : List A) (i first start : ℕ) (old now : List ℕ) → length xs ≤ i → SumsGo f xs i first start old now → now ≡ old ++ sums_from start (map f xs)
+pub sums_end : {A : Type 0} (f : A → ℕ) (xs : List A) (i first start : ℕ) (old now : List ℕ) → length xs ≤ i
+    → SumsGo f xs i first start old now → now ≡ old ++ sums_from start (map f xs)
 sums_end f xs i first start old now past g = sym (append-nil now) ∙ sym (ap (λ l. now ++ sums_from first (map f l)) (drop_of_length-le xs past)) ∙ g.all
 
-pub sums_next : {A : Type 0} (f : A → ℕ) (xs : List A) (i first start : ℕ) (old now : List ℕ) → length xs ≤ i → SumsGo f xs i first start old now → first ≡ start + total (map f xs)
+pub sums_next : {A : Type 0} (f : A → ℕ) (xs : List A) (i first start : ℕ) (old now : List ℕ) → length xs ≤ i
+    → SumsGo f xs i first start old now → first ≡ start + total (map f xs)
 sums_next f xs i first start old now past g =
     let none : first + 0 ≡ start + total (map f xs) = sym (ap (λ l. first + total (map f l)) (drop_of_length-le xs past)) ∙ g.sum in
     omega (arith, none)
@@ -104,13 +118,20 @@ pub record FieldsGo (blocks : List Block) (i first : ℕ) (now : List ℕ) : Typ
 pub fields_begin : (blocks : List Block) (now : List ℕ) → now ≡ [] → FieldsGo blocks 0 0 now
 fields_begin blocks now none = record { all = ap (λ l. l ++ sums_from 0 (field_counts blocks)) none; sum = omega arith }
 
-fields_left : (blocks : List Block) (i first : ℕ) (k : Block) (now : List ℕ) → i < length blocks → k ≡ get_or blocks i k → FieldsGo blocks i first now → first + (total (map field_count k.files) + total (field_counts (drop (i + 1) blocks))) ≡ total (field_counts blocks)
+fields_left : (blocks : List Block) (i first : ℕ) (k : Block) (now : List ℕ) → i < length blocks → k ≡ get_or blocks i k
+    → FieldsGo blocks i first now → first + (total (map field_count k.files)
+    + total (field_counts (drop (i + 1) blocks))) ≡ total (field_counts blocks)
 fields_left blocks i first k now lt is g =
     let parts = total_append (map field_count k.files) (field_counts (drop (i + 1) blocks)) in
-    let s : first + total (map field_count k.files ++ field_counts (drop (i + 1) blocks)) ≡ total (field_counts blocks) = ap (λ l. first + total (field_counts l)) (sym (opens blocks i k lt is)) ∙ g.sum in
+    let s : first + total (map field_count k.files ++ field_counts (drop (i + 1) blocks))
+    ≡ total (field_counts blocks) =
+    ap (λ l. first + total (field_counts l)) (sym (opens blocks i k lt is)) ∙ g.sum in
     omega (arith, parts, s)
 
-pub fields_more : (blocks : List Block) (i first next : ℕ) (k : Block) (files : List File) (now new : List ℕ) → i < length blocks → k ≡ get_or blocks i k → files ≡ k.files → next ≡ first + total (map field_count files) → new ≡ now ++ sums_from first (map field_count files) → FieldsGo blocks i first now → FieldsGo blocks (i + 1) next new
+pub fields_more : (blocks : List Block) (i first next : ℕ) (k : Block) (files : List File) (now new : List ℕ)
+    → i < length blocks → k ≡ get_or blocks i k → files ≡ k.files → next ≡ first + total (map field_count files)
+    → new ≡ now ++ sums_from first (map field_count files) → FieldsGo blocks i first now
+    → FieldsGo blocks (i + 1) next new
 fields_more blocks i first next k files now new lt is same step made g =
     let rest : List ℕ = field_counts (drop (i + 1) blocks) in
     let at : next ≡ first + total (map field_count k.files) = step ∙ ap (λ fs. first + total (map field_count fs)) same in
@@ -125,7 +146,9 @@ fields_more blocks i first next k files now new lt is same step made g =
       sum = (let s = fields_left blocks i first k now lt is g in omega (arith, s, at));
     }
 
-pub fields_small : (blocks : List Block) (i first : ℕ) (k : Block) (files : List File) (now : List ℕ) → i < length blocks → k ≡ get_or blocks i k → files ≡ k.files → total (field_counts blocks) < 2 ^ 32 → FieldsGo blocks i first now → first + total (map field_count files) < 2 ^ 32
+pub fields_small : (blocks : List Block) (i first : ℕ) (k : Block) (files : List File) (now : List ℕ)
+    → i < length blocks → k ≡ get_or blocks i k → files ≡ k.files → total (field_counts blocks) < 2 ^ 32
+    → FieldsGo blocks i first now → first + total (map field_count files) < 2 ^ 32
 fields_small blocks i first k files now lt is same small g =
     let s = fields_left blocks i first k now lt is g in
     let count : total (map field_count files) ≡ total (map field_count k.files) = ap (λ fs. total (map field_count fs)) same in
@@ -178,7 +201,8 @@ counts_few x kept =
 pub variables_small : (x : Exchange) (blocks : List Block) → IsExchange x → blocks ≡ x.blocks → total (map variable_count blocks) < 2 ^ 32
 variables_small x blocks kept same =
     let few = variables_few x kept in
-    let all : total (map variable_count blocks) ≡ sum_by variable_count x.blocks = ap (λ ks. total (map variable_count ks)) same ∙ total_all variable_count x.blocks in
+    let all : total (map variable_count blocks) ≡ sum_by variable_count x.blocks =
+    ap (λ ks. total (map variable_count ks)) same ∙ total_all variable_count x.blocks in
     omega (arith, few, all)
 
 pub counts_small : (x : Exchange) (blocks : List Block) → IsExchange x → blocks ≡ x.blocks → total (field_counts blocks) < 2 ^ 32
@@ -212,13 +236,16 @@ fields_few x kept =
 
 -- the numbers of an exchange
 
-firsts_are : {A : Type 0} (f : A → ℕ) (xs : List A) (firsts : List ℕ) → firsts ≡ sums_from 0 (map f xs) → AreFirsts (length xs) (λ i. sum_by f (take i xs)) firsts
+firsts_are : {A : Type 0} (f : A → ℕ) (xs : List A) (firsts : List ℕ) → firsts ≡ sums_from 0 (map f xs)
+    → AreFirsts (length xs) (λ i. sum_by f (take i xs)) firsts
 firsts_are f xs firsts is = record {
   each_one = ap length is ∙ length-sums_from 0 (map f xs) ∙ length-map xs f;
   is = λ i n there. (let at = sums_at 0 (map f xs) i n (ap (λ l. slice_get l i) (sym is) ∙ there) in let sum = total_take f xs i in omega (arith, at, sum));
 }
 
-pub numbers_are : (x : Exchange) (n : CellNumbers) (blocks others : List Block) → blocks ≡ x.blocks → others ≡ x.blocks → n.variables ≡ sums_from 0 (map variable_count blocks) → n.fields ≡ sums_from 0 (field_counts others) → AreNumbers x n
+pub numbers_are : (x : Exchange) (n : CellNumbers) (blocks others : List Block) → blocks ≡ x.blocks → others ≡ x.blocks
+    → n.variables ≡ sums_from 0 (map variable_count blocks) → n.fields ≡ sums_from 0 (field_counts others)
+    → AreNumbers x n
 numbers_are x n blocks others same alike variables fields = record {
   variables = firsts_are variable_count x.blocks n.variables (variables ∙ ap (λ ks. sums_from 0 (map variable_count ks)) same);
   fields = firsts_are placed_count (files_of x) n.fields (fields ∙ ap (λ ks. sums_from 0 (field_counts ks)) alike ∙ ap (sums_from 0) (sym (counts_of_files x)));
@@ -236,5 +263,6 @@ has_first many first firsts i j are lt small =
 pub variable_has : (x : Exchange) (numbers : CellNumbers) (b v : ℕ) → AreNumbers x numbers → IsNumbered x b (NamedVariable v) → HasNumber numbers.variables b v
 variable_has x numbers b v are h = has_first (length x.blocks) (first_variable x) numbers.variables b v are.variables h.0 h.1
 
-pub field_has : (x : Exchange) (numbers : CellNumbers) (b file field pointer : ℕ) → AreNumbers x numbers → IsNumbered x b (NamedField file field pointer) → HasNumber numbers.fields file field
+pub field_has : (x : Exchange) (numbers : CellNumbers) (b file field pointer : ℕ) → AreNumbers x numbers
+    → IsNumbered x b (NamedField file field pointer) → HasNumber numbers.fields file field
 field_has x numbers b file field pointer are h = has_first (length (files_of x)) (first_field x) numbers.fields file field are.fields h.0 h.1

@@ -1,8 +1,11 @@
 -- The fields of the files of which records are freed.
-use Rattle.std.proofs.Common.{◌≡◌, ◌⊎◌, inl, inr, ⊎_elim, ℕ, suc, ◌+◌, ◌-◌, ◌<◌, ◌≤◌, ◌^◌, true, List, [], ◌∷◌, ◌++◌, length, map, None, Some, slice_get, refl, sym, ap, ◌∙◌, subst, arith, append_assoc, append-nil}
+use Rattle.std.proofs.Common.{◌≡◌, ◌⊎◌, inl, inr, ⊎_elim, ℕ, suc, ◌+◌, ◌-◌, ◌<◌, ◌≤◌, ◌^◌, true}
+use Rattle.std.proofs.Common.{List, [], ◌∷◌, ◌++◌, length, map, None, Some, slice_get, refl, sym}
+use Rattle.std.proofs.Common.{ap, ◌∙◌, subst, arith, append_assoc, append-nil}
 use Rattle.std.specs.Prelude.{◌↔◌}
 use Rattle.std.specs.List.{Contains, range_with_len}
-use Rattle.std.proofs.lemmas.List.Elements.{Contains-append_left, Contains-append_right, Contains-append_cases}
+use Rattle.std.proofs.lemmas.List.Elements.{Contains-append_left, Contains-append_right}
+use Rattle.std.proofs.lemmas.List.Elements.{Contains-append_cases}
 use Rattle.std.proofs.lemmas.List.FromFn.{length-map-range_with_len, get_or-map-range_with_len}
 use Rattle.std.proofs.lemmas.Option.{none-some, same_Some, slice_get_within}
 use Rattle.exchange_model.specs.declared.block.File.{File}
@@ -38,7 +41,9 @@ of_range f from many y c =
 
 -- a file
 
-pub file_at : (x : Exchange) (file b first : ℕ) (f : File) → slice_get (placed_files x.blocks) file ≡ Some (record { block = b; file = f; first = first }) → slice_get (files_of x) file ≡ Some (record { block = b; file = f; first = first })
+pub file_at : (x : Exchange) (file b first : ℕ) (f : File)
+    → slice_get (placed_files x.blocks) file ≡ Some (record { block = b; file = f; first = first })
+    → slice_get (files_of x) file ≡ Some (record { block = b; file = f; first = first })
 unfolding files_of
 file_at x file b first f there = there
 
@@ -53,9 +58,12 @@ module _ (x : Exchange) (file : ℕ) (placed : Placed) (kept : IsExchange x) (th
       (slice_get_within (files_of x) file placed there, within placed_count (files_of x) file 0 placed there (omega arith) (fields_few x kept))
 
   pub opened_small : (first n : ℕ) → first ≡ field_number x file 0 → n ≡ length placed.file.fields → first + n < 2 ^ 32
-  opened_small first n is count = (let small = within placed_count (files_of x) file (placed_count placed) placed there (omega arith) (fields_few x kept) in omega (arith, small, is, count))
+  opened_small first n is count = (let small = within placed_count (files_of x) file (placed_count placed) placed there
+      (omega arith) (fields_few x kept) in omega (arith, small, is, count))
 
-  pub opened_there : (first n end : ℕ) (old new : List Access) → first ≡ field_number x file 0 → n ≡ length placed.file.fields → end ≡ first + n → new ≡ old ++ map (λ k. Own true k) (range_with_len first (end - first)) → Adds old new (Opens x file)
+  pub opened_there : (first n end : ℕ) (old new : List Access) → first ≡ field_number x file 0
+      → n ≡ length placed.file.fields → end ≡ first + n
+      → new ≡ old ++ map (λ k. Own true k) (range_with_len first (end - first)) → Adds old new (Opens x file)
   opened_there first n end old new at count ends made = record {
     each = λ a c. ⊎_elim (λ was. inl was) (λ one. inr (opens a one)) (Contains-append_cases old fields a (subst (λ l. Contains l a) is c));
     kept = λ a c. subst (λ l. Contains l a) (sym is) (Contains-append_left old fields a c);
@@ -66,7 +74,8 @@ module _ (x : Exchange) (file : ℕ) (placed : Placed) (kept : IsExchange x) (th
       fields = map (λ k. Own true k) (range_with_len first (length placed.file.fields))
 
       is : new ≡ old ++ fields
-      is = (let many : end - first ≡ length placed.file.fields = omega (arith, count, ends) in made ∙ ap (λ m. old ++ map (λ k. Own true k) (range_with_len first m)) many)
+      is = (let many : end - first ≡ length placed.file.fields = omega (arith, count, ends) in made
+          ∙ ap (λ m. old ++ map (λ k. Own true k) (range_with_len first m)) many)
 
       number : (field : ℕ) → first + field ≡ field_number x file field
       number field = omega (arith, at)
@@ -80,7 +89,8 @@ module _ (x : Exchange) (file : ℕ) (placed : Placed) (kept : IsExchange x) (th
       opened a o =
           let same : placed ≡ o.placed = same_Some placed o.placed (sym there ∙ o.there) in
           let inside : o.field < length placed.file.fields = subst (λ (q : Placed). o.field < length q.file.fields) (sym same) o.inside in
-          subst (Contains fields) (sym o.is) (in_range (λ k. Own true k) first (length placed.file.fields) o.field (field_number x file o.field) inside (number o.field))
+          subst (Contains fields) (sym o.is) (in_range (λ k. Own true k) first (length placed.file.fields) o.field
+          (field_number x file o.field) inside (number o.field))
 
 -- fields in a row
 
@@ -93,7 +103,8 @@ pub record WrittenGo (first end number : ℕ) (old now : List Access) : Type 0 w
 pub written_begin : (first end : ℕ) (old : List Access) → WrittenGo first end first old old
 written_begin first end old = record { same = refl }
 
-pub written_more : (first end number : ℕ) (old now new : List Access) → number < end → new ≡ now ++ Own true number ∷ [] → WrittenGo first end number old now → WrittenGo first end (number + 1) old new
+pub written_more : (first end number : ℕ) (old now new : List Access) → number < end → new ≡ now ++ Own true number ∷ []
+    → WrittenGo first end number old now → WrittenGo first end (number + 1) old new
 written_more first end number old now new lt made g =
     let one : suc (end - (number + 1)) ≡ end - number = omega (arith, lt) in
     record {
@@ -104,14 +115,16 @@ written_more first end number old now new lt made g =
           ∙ g.same;
     }
 
-pub written_end : (first end number : ℕ) (old now : List Access) → end ≤ number → WrittenGo first end number old now → now ≡ old ++ map (λ k. Own true k) (range_with_len first (end - first))
+pub written_end : (first end number : ℕ) (old now : List Access) → end ≤ number → WrittenGo first end number old now
+    → now ≡ old ++ map (λ k. Own true k) (range_with_len first (end - first))
 written_end first end number old now past g =
     let none : 0 ≡ end - number = omega (arith, past) in
     sym (append-nil now) ∙ ap (λ m. now ++ written number m) none ∙ g.same
 
 -- an access that frees records, or another one
 
-pub opens_fields : (x : Exchange) (file : ℕ) (access : Access) (old new : List Access) → access ≡ Frees file → Adds old new (Opens x file) → Adds old new (OpenedBy x access)
+pub opens_fields : (x : Exchange) (file : ℕ) (access : Access) (old new : List Access) → access ≡ Frees file
+    → Adds old new (Opens x file) → Adds old new (OpenedBy x access)
 opens_fields x file access old new is h = subst (λ a. Adds old new (OpenedBy x a)) (sym is) h
 
 pub opens_nothing : (x : Exchange) (access : Access) (all : List Access) → ((file : ℕ) → access ≡ Frees file → ⊥) → Adds all all (OpenedBy x access)
@@ -122,7 +135,10 @@ opens_nothing x access all other = record { each = λ a c. inl c; kept = λ a c.
     none _ a is o = o
 
 -- all of these, and what they open
-pub whole_is : (x : Exchange) (found direct given copy all each : List Access) → ((a : Access) → Contains direct a ↔ Contains found a) → given ≡ direct → copy ≡ direct → Adds copy all (OneGives (OpenedBy x) given) → ((a : Access) → Contains each a ↔ Contains all a) → (a : Access) → Contains each a ↔ (Contains found a ⊎ OneGives (OpenedBy x) found a)
+pub whole_is : (x : Exchange) (found direct given copy all each : List Access)
+    → ((a : Access) → Contains direct a ↔ Contains found a) → given ≡ direct → copy ≡ direct
+    → Adds copy all (OneGives (OpenedBy x) given) → ((a : Access) → Contains each a ↔ Contains all a) → (a : Access)
+    → Contains each a ↔ (Contains found a ⊎ OneGives (OpenedBy x) found a)
 whole_is x found direct given copy all each same shown copied h ordered a = (
   λ c. ⊎_elim (λ was. inl ((same a).0 (subst (λ l. Contains l a) copied was))) (λ o. inr ((opens a).0 o)) (h.each a ((ordered a).0 c)),
   λ s. (ordered a).1 (⊎_elim (λ c. h.kept a (subst (λ l. Contains l a) (sym copied) ((same a).1 c))) (λ o. h.added a ((opens a).1 o)) s),

@@ -1,12 +1,14 @@
 -- All statements of an exchange are looked at, each where it stands.
-use Rattle.std.proofs.Common.{◌≡◌, ◌↔◌, ◌⊎◌, inl, inr, ⊎_elim, ℕ, zero, suc, List, [], ◌∷◌, ◌++◌, map, Option, Some, None, slice_get, refl, sym, ap, ◌∙◌, subst, arith}
+use Rattle.std.proofs.Common.{◌≡◌, ◌↔◌, ◌⊎◌, inl, inr, ⊎_elim, ℕ, zero, suc, List, [], ◌∷◌, ◌++◌}
+use Rattle.std.proofs.Common.{map, Option, Some, None, slice_get, refl, sym, ap, ◌∙◌, subst, arith}
 use Rattle.std.specs.List.{Contains}
 use Rattle.std.proofs.lemmas.Option.{none-some, same_Some}
 use Rattle.plex_num.specs.declared.level.Level.{Level}
 use Rattle.plex_num.proofs.Members.{none_in}
 use Rattle.exchange_model.specs.declared.exchange.Exchange.{Exchange}
 use Rattle.exchange_model.specs.declared.signal.SignalKind.{SignalKind}
-use Rattle.exchange_model.specs.declared.signal.SignalKind.TheVariants.{Buffered, Direct, Combined, Answer, Outside}
+use Rattle.exchange_model.specs.declared.signal.SignalKind.TheVariants.{Buffered, Direct, Combined}
+use Rattle.exchange_model.specs.declared.signal.SignalKind.TheVariants.{Answer, Outside}
 use Rattle.exchange_model.specs.declared.stmt.StmtKind.TheOpen as stmt
 use Rattle.source_meaning.specs.Named.{Layer}
 use Rattle.flow_points.specs.Facts.{Facts, Reached}
@@ -79,10 +81,15 @@ module _ (x : Exchange) (P : Facts) (e : ℕ) (places : List PlaceAt) (are : Are
           record { item = i.0; one = i.1; gives = subst (λ q. HasAccess x P e q b) (sym i.2) has }
 
   -- what all these statements give, and the fields that it opens
-  pub found_exact : (none found all : List Access) → none ≡ [] → Adds none found (OneGives (λ (at : PlaceAt). HasAccess x P e (seen at)) places) → ((a : Access) → Contains all a ↔ (Contains found a ⊎ OneGives (OpenedBy x) found a)) → (a : Access) → Contains all a ↔ IsAccess x P e a
+  pub found_exact : (none found all : List Access) → none ≡ []
+      → Adds none found (OneGives (λ (at : PlaceAt). HasAccess x P e (seen at)) places)
+      → ((a : Access) → Contains all a ↔ (Contains found a ⊎ OneGives (OpenedBy x) found a)) → (a : Access)
+      → Contains all a ↔ IsAccess x P e a
   found_exact none found all empty h whole a = (
     λ c. ⊎_elim (is_access a) (λ o. opened a o.item (is_access o.item o.one) o.gives) ((whole a).0 c),
-    λ i. (whole a).1 (⊎_elim (λ g. inl (h.added a g)) (λ o. inr (record { item = access.Frees o.file; one = h.added (access.Frees o.file) o.freed; gives = o.opens })) (access_back a i)),
+    λ i. (whole a).1 (⊎_elim (λ g. inl (h.added a g))
+        (λ o. inr (record { item = access.Frees o.file; one = h.added (access.Frees o.file) o.freed; gives = o.opens }))
+        (access_back a i)),
   )
     where
       is_access : (b : Access) → Contains found b → IsAccess x P e b
@@ -99,11 +106,16 @@ module _ (x : Exchange) (P : Facts) (e : ℕ) (places : List PlaceAt) (are : Are
 
 -- a statement that is reached, or not
 
-pub reached_adds : (x : Exchange) (P : Facts) (e : ℕ) (at : Place) (uses each given : List Use) (none : List Use) (old new : List Access) → Reached P e at.point → none ≡ [] → uses ≡ none ++ layer_uses x at.block at.layer → ((u : Use) → Contains each u ↔ Contains uses u) → given ≡ each → Adds old new (OneGives (UseGives P e at.point) given) → Adds old new (HasAccess x P e at)
+pub reached_adds : (x : Exchange) (P : Facts) (e : ℕ) (at : Place) (uses each given : List Use) (none : List Use)
+    (old new : List Access) → Reached P e at.point → none ≡ [] → uses ≡ none ++ layer_uses x at.block at.layer
+    → ((u : Use) → Contains each u ↔ Contains uses u) → given ≡ each
+    → Adds old new (OneGives (UseGives P e at.point) given) → Adds old new (HasAccess x P e at)
 reached_adds x P e at uses each given none old new reached empty made once same h =
     let all = layer_uses x at.block at.layer in
     let is : uses ≡ all = made ∙ ap (λ l. l ++ all) empty in
-    let alike = gives_alike (UseGives P e at.point) all given (λ u. subst (λ l. Contains l u ↔ Contains all u) (sym same) (subst (λ l. Contains each u ↔ Contains l u) is (once u))) in
+    let alike = gives_alike (UseGives P e at.point) all given
+    (λ u. subst (λ l. Contains l u ↔ Contains all u) (sym same)
+    (subst (λ l. Contains each u ↔ Contains l u) is (once u))) in
     adds_as old new (OneGives (UseGives P e at.point) given) (HasAccess x P e at)
     (λ a g. record { reached = reached; access = (alike a).0 g })
     (λ a has. (alike a).1 has.access)
@@ -133,7 +145,9 @@ is_sent x (stmt.Send signal to values fresh) level is =
     sends signal to values fresh b.name level b.count b.is
 is_sent x _ level is = absurd (none-some level is)
 
-level_there : (x : Exchange) (P : Facts) (e : ℕ) (places : List PlaceAt) (level : Level) → AreReachedAmong x P e (map seen places) → OneGives (λ (at : PlaceAt). HasLevel x P e (seen at)) places level → MaySendTo x P e level
+level_there : (x : Exchange) (P : Facts) (e : ℕ) (places : List PlaceAt) (level : Level)
+    → AreReachedAmong x P e (map seen places) → OneGives (λ (at : PlaceAt). HasLevel x P e (seen at)) places level
+    → MaySendTo x P e level
 level_there x P e places level are o =
     let s = stood seen places o.item o.one in
     record {
@@ -144,7 +158,9 @@ level_there x P e places level are o =
       sends = is_sent x (seen o.item).layer level o.gives.sends;
     }
 
-level_back : (x : Exchange) (P : Facts) (e : ℕ) (places : List PlaceAt) (level : Level) → AreReachedAmong x P e (map seen places) → MaySendTo x P e level → OneGives (λ (at : PlaceAt). HasLevel x P e (seen at)) places level
+level_back : (x : Exchange) (P : Facts) (e : ℕ) (places : List PlaceAt) (level : Level)
+    → AreReachedAmong x P e (map seen places) → MaySendTo x P e level
+    → OneGives (λ (at : PlaceAt). HasLevel x P e (seen at)) places level
 level_back x P e places level are h =
     let i = of_map seen places h.at (are.all h.point h.at h.stands h.reached) in
     let has : HasLevel x P e h.at level = record {
@@ -153,6 +169,12 @@ level_back x P e places level are h =
     } in
     record { item = i.0; one = i.1; gives = subst (λ q. HasLevel x P e q level) (sym i.2) has }
 
-pub sent_exact : (x : Exchange) (P : Facts) (e : ℕ) (places : List PlaceAt) (none sent : List Level) → AreReachedAmong x P e (map seen places) → none ≡ [] → Adds none sent (OneGives (λ (at : PlaceAt). HasLevel x P e (seen at)) places) → (l : Level) → Contains sent l ↔ MaySendTo x P e l
-sent_exact x P e places none sent are empty h l =
-    (λ c. ⊎_elim (λ was. absurd (none_in l (subst (λ k. Contains k l) empty was))) (λ o. level_there x P e places l are o) (h.each l c), λ i. h.added l (level_back x P e places l are i))
+pub sent_exact : (x : Exchange) (P : Facts) (e : ℕ) (places : List PlaceAt) (none sent : List Level)
+    → AreReachedAmong x P e (map seen places) → none ≡ []
+    → Adds none sent (OneGives (λ (at : PlaceAt). HasLevel x P e (seen at)) places) → (l : Level)
+    → Contains sent l ↔ MaySendTo x P e l
+sent_exact x P e places none sent are empty h l = (
+  λ c. ⊎_elim (λ was. absurd (none_in l (subst (λ k. Contains k l) empty was)))
+      (λ o. level_there x P e places l are o) (h.each l c),
+  λ i. h.added l (level_back x P e places l are i),
+)

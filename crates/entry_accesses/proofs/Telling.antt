@@ -1,7 +1,9 @@
 -- What a statement does to stored data, with what is known of pointers, is exactly its accesses.
-use Rattle.std.proofs.Common.{◌≡◌, ◌⊎◌, inl, inr, ⊎_elim, ℕ, Bool, true, false, List, [], ◌∷◌, ◌++◌, map, Option, Some, None, slice_get, refl, sym, ap, ◌∙◌, subst}
+use Rattle.std.proofs.Common.{◌≡◌, ◌⊎◌, inl, inr, ⊎_elim, ℕ, Bool, true, false, List, [], ◌∷◌, ◌++◌}
+use Rattle.std.proofs.Common.{map, Option, Some, None, slice_get, refl, sym, ap, ◌∙◌, subst}
 use Rattle.std.specs.List.{Contains}
-use Rattle.std.proofs.lemmas.List.Elements.{Contains-append_left, Contains-append_right, Contains-append_cases}
+use Rattle.std.proofs.lemmas.List.Elements.{Contains-append_left, Contains-append_right}
+use Rattle.std.proofs.lemmas.List.Elements.{Contains-append_cases}
 use Rattle.plex_num.proofs.Members.{first_or_later, none_in, first_is, later_is}
 use Rattle.exchange_model.specs.declared.exchange.Exchange.{Exchange}
 use Rattle.exchange_model.specs.declared.stmt.Holder.TheVariants as holder
@@ -28,7 +30,8 @@ use Rattle.entry_accesses.specs.declared.uses.Use.TheVariants as use_of
 use Rattle.entry_accesses.specs.Adding.{OneGives}
 use Rattle.entry_accesses.specs.Opening.{OpenedBy, Opens}
 use Rattle.entry_accesses.specs.Operands.{layer_names}
-use Rattle.entry_accesses.specs.Uses.{field_use, field_uses, named_uses, read_uses, holder_uses, done_uses, layer_uses, UseGives}
+use Rattle.entry_accesses.specs.Uses.{field_use, field_uses, named_uses, read_uses, holder_uses}
+use Rattle.entry_accesses.specs.Uses.{done_uses, layer_uses, UseGives}
 
 -- lists of lists
 
@@ -88,13 +91,15 @@ module _ (x : Exchange) (P : Facts) (e b p : ℕ) where
       let r = of_joined (named_uses x b false) names g.item g.one in
       (r.0, r.1, record { item = g.item; one = r.2; gives = g.gives })
 
-  plain_given : (file pointer number : ℕ) (write : Bool) (v : Value) → IsPlain x file → Known P e p (Temp pointer) v → Given (field_uses (slice_get (files_of x) file) write number pointer) (access.Field write number v)
+  plain_given : (file pointer number : ℕ) (write : Bool) (v : Value) → IsPlain x file → Known P e p (Temp pointer) v
+      → Given (field_uses (slice_get (files_of x) file) write number pointer) (access.Field write number v)
   plain_given file pointer number write v h known =
       let a : Access = access.Field write number v in
       subst (λ o. Given (field_uses o write number pointer) a) (sym h.there)
       (subst (λ t. Given (field_use t write number pointer ∷ []) a) (sym h.plain) (alone (field_use false write number pointer) a (v, known, refl)))
 
-  own_given : (file pointer number : ℕ) (write : Bool) → IsForlopp x file → Given (field_uses (slice_get (files_of x) file) write number pointer) (access.Own write number)
+  own_given : (file pointer number : ℕ) (write : Bool) → IsForlopp x file
+      → Given (field_uses (slice_get (files_of x) file) write number pointer) (access.Own write number)
   own_given file pointer number write h =
       let a : Access = access.Own write number in
       subst (λ o. Given (field_uses o write number pointer) a) (sym h.there)
@@ -105,10 +110,12 @@ module _ (x : Exchange) (P : Facts) (e b p : ℕ) where
   FieldIs file pointer number write a =
       (IsPlain x file × (v : Value) × Known P e p (Temp pointer) v × (a ≡ access.Field write number v)) ⊎ (IsForlopp x file × (a ≡ access.Own write number))
 
-  given_field : (file pointer number : ℕ) (write : Bool) (a : Access) → Given (field_uses (slice_get (files_of x) file) write number pointer) a → FieldIs file pointer number write a
+  given_field : (file pointer number : ℕ) (write : Bool) (a : Access)
+      → Given (field_uses (slice_get (files_of x) file) write number pointer) a → FieldIs file pointer number write a
   given_field file pointer number write a g = by (slice_get (files_of x) file) refl g
     where
-      kind : (placed : Placed) (t : Bool) → slice_get (files_of x) file ≡ Some placed → placed.file.forlopp ≡ t → UseGives P e p (field_use t write number pointer) a → FieldIs file pointer number write a
+      kind : (placed : Placed) (t : Bool) → slice_get (files_of x) file ≡ Some placed → placed.file.forlopp ≡ t
+          → UseGives P e p (field_use t write number pointer) a → FieldIs file pointer number write a
       kind placed true there is gives = inr (record { placed = placed; there = there; forlopp = is }, gives)
       kind placed false there is gives = inl (record { placed = placed; there = there; plain = is }, gives.0, gives.1, gives.2)
 
@@ -148,22 +155,32 @@ module _ (x : Exchange) (P : Facts) (e b p : ℕ) where
 
   pub all_given : (l : Layer) (a : Access) → Accesses x P e b p l a → All l a ⊎ Freed l a
   all_given l a (told.reads _ v names) =
-      inl (by_read l a (read_given (layer_names l) (NamedVariable v) a (variable_named l v names) (alone (use_of.Variable false (variable_number x b v)) a refl)))
+      inl (by_read l a (read_given (layer_names l) (NamedVariable v) a (variable_named l v names)
+      (alone (use_of.Variable false (variable_number x b v)) a refl)))
   all_given l a (told.reads_holder _ v is) =
       inl (by_held l a (subst (λ r. Given (holder_uses x b r) a) (sym is) (alone (use_of.Variable false (variable_number x b v)) a refl)))
   all_given l a (told.writes v value) = inl (by_done l a (alone (use_of.Variable true (variable_number x b v)) a refl))
   all_given l a (told.reads_field _ file field pointer v names plain known) =
       inl (by_read l a
-      (read_given (layer_names l) (NamedField file field pointer) a (field_named l file field pointer names) (plain_given file pointer (field_number x file field) false v plain known)))
-  all_given l a (told.writes_field file field pointer value v plain known) = inl (by_done l a (plain_given file pointer (field_number x file field) true v plain known))
+      (read_given (layer_names l) (NamedField file field pointer) a (field_named l file field pointer names)
+      (plain_given file pointer (field_number x file field) false v plain known)))
+  all_given l a (told.writes_field file field pointer value v plain known) =
+      inl (by_done l a (plain_given file pointer (field_number x file field) true v plain known))
   all_given l a (told.searches temp file field rel value label) =
       inl (by_done l a (alone (use_of.Field false (field_number x file field) (source.Is Any)) a (Any, refl, refl)))
   all_given l a (told.reads_own _ file field pointer names forlopp) =
       inl (by_read l a
-      (read_given (layer_names l) (NamedField file field pointer) a (field_named l file field pointer names) (own_given file pointer (field_number x file field) false forlopp)))
+      (read_given (layer_names l) (NamedField file field pointer) a (field_named l file field pointer names)
+      (own_given file pointer (field_number x file field) false forlopp)))
   all_given l a (told.writes_own file field pointer value forlopp) = inl (by_done l a (own_given file pointer (field_number x file field) true forlopp))
   all_given l a (told.opens_own temp file field placed there lt) =
-      inr (record { file = file; frees = by_done l (access.Frees file) (alone (use_of.Frees file) (access.Frees file) refl); opens = record { field = field; placed = placed; there = there; inside = lt; is = refl } })
+      inr (record {
+        file = file;
+        frees = by_done l (access.Frees file)
+            (alone (use_of.Frees file) (access.Frees file) refl);
+        opens =
+            record { field = field; placed = placed; there = there; inside = lt; is = refl };
+      })
   all_given l a (told.seizes temp file label) = inl (by_done l a (alone (use_of.Seizes file) a refl))
   all_given l a (told.frees temp file) = inl (by_done l a (alone (use_of.Frees file) a refl))
 
@@ -202,7 +219,9 @@ module _ (x : Exchange) (P : Facts) (e b p : ℕ) where
       (given_field file pointer (field_number x file field) true a g)
   of_done (stmt.ForFirst temp file field rel value label) a g =
       let h = of_alone (use_of.Field false (field_number x file field) (source.Is Any)) a g in
-      subst (Is (stmt.ForFirst temp file field rel value label)) (sym (h.2 ∙ ap (λ v. access.Field false (field_number x file field) v) h.1)) (told.searches temp file field rel value label)
+      subst (Is (stmt.ForFirst temp file field rel value label))
+      (sym (h.2 ∙ ap (λ v. access.Field false (field_number x file field) v) h.1))
+      (told.searches temp file field rel value label)
   of_done (stmt.Seize temp file label) a g =
       subst (Is (stmt.Seize temp file label)) (sym (of_alone (use_of.Seizes file) a g)) (told.seizes temp file label)
   of_done (stmt.Free temp file) a g =
@@ -213,7 +232,8 @@ module _ (x : Exchange) (P : Facts) (e b p : ℕ) where
   given_all l a g =
       ⊎_elim
       (λ named. let r = given_read (layer_names l) a named in of_name l a r.0 r.1 r.2)
-      (λ other. ⊎_elim (λ held. of_held l a (receiver_in l) refl held) (λ done. of_done l a done) (given_cases (holder_uses x b (receiver_in l)) (done_uses x b l) a other))
+      (λ other. ⊎_elim (λ held. of_held l a (receiver_in l) refl held) (λ done. of_done l a done)
+      (given_cases (holder_uses x b (receiver_in l)) (done_uses x b l) a other))
       (given_cases (read_uses x b (layer_names l)) (holder_uses x b (receiver_in l) ++ done_uses x b l) a g)
 
 -- a statement that frees records of a file opens its fields
@@ -221,11 +241,13 @@ module _ (x : Exchange) (P : Facts) (e b p : ℕ) where
 same_file : (f g : ℕ) → access.Frees f ≡ access.Frees g → f ≡ g
 same_file f g is = cc
 
-frees_in : (x : Exchange) (P : Facts) (e b p : ℕ) (l : Layer) (a : Access) (file : ℕ) → Accesses x P e b p l a → a ≡ access.Frees file → (temp : ℕ) × (l ≡ stmt.Free temp file)
+frees_in : (x : Exchange) (P : Facts) (e b p : ℕ) (l : Layer) (a : Access) (file : ℕ) → Accesses x P e b p l a
+    → a ≡ access.Frees file → (temp : ℕ) × (l ≡ stmt.Free temp file)
 frees_in x P e b p l a file (told.frees temp f) is = (temp, ap (λ g. stmt.Free temp g) (same_file f file is))
 frees_in x P e b p l a file _ is = cc
 
-pub opened_by : (x : Exchange) (P : Facts) (e b p : ℕ) (l : Layer) (freeing a : Access) → Accesses x P e b p l freeing → OpenedBy x freeing a → Accesses x P e b p l a
+pub opened_by : (x : Exchange) (P : Facts) (e b p : ℕ) (l : Layer) (freeing a : Access) → Accesses x P e b p l freeing
+    → OpenedBy x freeing a → Accesses x P e b p l a
 opened_by x P e b p l (access.Frees file) a h o =
     let f = frees_in x P e b p l (access.Frees file) file h refl in
     subst (λ (m : Layer). Accesses x P e b p m a) (sym f.1)

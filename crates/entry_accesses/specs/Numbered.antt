@@ -1,5 +1,7 @@
--- Where the numbers of the variables of a block begin, and those of the fields of a file, through the exchange.
-use Rattle.std.specs.Prelude.{◌≡◌, ℕ, ◌+◌, ◌<◌, ◌^◌, List, [], ◌∷◌, ◌++◌, length, map, take, sum_by, Some, slice_get}
+-- Where the numbers of the variables of a block begin, and those of the fields of a file, through
+-- the exchange.
+use Rattle.std.specs.Prelude.{◌≡◌, ℕ, ◌+◌, ◌<◌, ◌^◌, List, [], ◌∷◌, ◌++◌, length, map, take, sum_by}
+use Rattle.std.specs.Prelude.{Some, slice_get}
 use Rattle.exchange_model.specs.declared.exchange.Exchange.{Exchange}
 use Rattle.exchange_model.specs.declared.block.Block.{Block}
 use Rattle.exchange_model.specs.declared.block.File.{File}
@@ -44,7 +46,8 @@ pub record HasNumber (firsts : List ℕ) (i j : ℕ) : Type 0 where
 -- what a block names has a number of 32 bits
 abbrev pub IsNumbered : Exchange → ℕ → Named → Type 0
 IsNumbered x b (NamedVariable v) = (b < length x.blocks) × (variable_number x b v < 2 ^ 32)
-IsNumbered x b (NamedField file field pointer) = (file < length (files_of x)) × (field_number x file field < 2 ^ 32)
+IsNumbered x b (NamedField file field pointer) =
+    (file < length (files_of x)) × (field_number x file field < 2 ^ 32)
 
 -- each number is the sum of those before it, and this one
 abbrev pub sums_from : ℕ → List ℕ → List ℕ

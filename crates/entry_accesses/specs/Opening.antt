@@ -1,4 +1,5 @@
--- The fields that freeing opens: all of the file of which a record is freed, each written in a record that the job holds.
+-- The fields that freeing opens: all of the file of which a record is freed, each written in a
+-- record that the job holds.
 use Rattle.std.specs.Prelude.{◌≡◌, ℕ, ◌<◌, true, length}
 use Rattle.exchange_model.specs.declared.exchange.Exchange.{Exchange}
 use Rattle.exchange_model.specs.Cells.{Placed}

@@ -23,9 +23,10 @@ use flow_table::{KnownFacts, PlaceAt, values_from};
 use plex_num::{Memory, Seq};
 use std::alloc::Global;
 
-/// The accesses of the statements that a job of the entry may reach, in order, each once. The numbers are those of the exchange; the
-/// places are of it too, and all that are reached are among them. Where there is a bound, `most`, and more accesses than that were met, it
-/// is `Over`: each of them takes time, and memory while it is kept.
+/// The accesses of the statements that a job of the entry may reach, in order, each once. The
+/// numbers are those of the exchange; the places are of it too, and all that are reached are among
+/// them. Where there is a bound, `most`, and more accesses than that were met, it is `Over`: each
+/// of them takes time, and memory while it is kept.
 pub fn accesses_within<K: KnownFacts>(
     alloc: Global,
     exchange: &Exchange,
@@ -75,7 +76,8 @@ fn is_past(most: Option<usize>, met: usize) -> bool
 /// Among so few accesses repeats do no harm.
 const FEW: usize = 1_024;
 
-/// Accesses that were found, some more than once; how many may stand there before repeats go; and how many were met.
+/// Accesses that were found, some more than once; how many may stand there before repeats go; and
+/// how many were met.
 #[derive(Drop)]
 struct Gathered {
     accesses: Seq<Access>,
@@ -114,7 +116,8 @@ fn gather<K: KnownFacts>(
     }))
 }
 
-/// The same without repeats, where there are too many: then as many again may come before they go once more.
+/// The same without repeats, where there are too many: then as many again may come before they go
+/// once more.
 fn thinned(gathered: Gathered) -> Gathered
     ensures { (a : AccessType) → Contains result.accesses a ↔ Contains gathered.accesses a }
 {

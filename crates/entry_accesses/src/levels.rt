@@ -8,15 +8,16 @@ ghost use Rattle.flow_table.specs.Texts.{AreReachedAmong, seen};
 ghost use Rattle.entry_summary.specs.Orders.{level_order};
 ghost use Rattle.entry_summary.specs.Summaries.{MaySendTo};
 ghost use Rattle.entry_accesses.specs.Adding.{Adds};
-ghost use Rattle.entry_accesses.specs.Levels.{HasLevel, buffer_level, in_order, is_sent as is_sent_level, sent_level};
+ghost use Rattle.entry_accesses.specs.Levels.{HasLevel, buffer_level, in_order};
+ghost use Rattle.entry_accesses.specs.Levels.{is_sent as is_sent_level, sent_level};
 
 use exchange_model::{Exchange, SignalKind, StmtKind};
 use flow_table::{KnownFacts, PlaceAt};
 use plex_num::{Level, Memory, Seq};
 use std::alloc::Global;
 
-/// The levels to which a job of the entry may send, from A on, each once. The places are of the exchange, and all that are
-/// reached are among them.
+/// The levels to which a job of the entry may send, from A on, each once. The places are of the
+/// exchange, and all that are reached are among them.
 pub fn levels_of<K: KnownFacts>(
     alloc: Global,
     exchange: &Exchange,

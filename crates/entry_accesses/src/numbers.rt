@@ -3,14 +3,15 @@ ghost use Rattle.std.specs.Prelude.{◌≡◌, ◌+◌, ◌<◌, ◌^◌, ◌++�
 ghost use Rattle.exchange_model.specs.declared.exchange.Exchange as declared;
 ghost use Rattle.exchange_model.specs.Inside.{total};
 ghost use Rattle.entry_summary.specs.Numbers.{field_number, variable_number};
-ghost use Rattle.entry_accesses.specs.Numbered.{AreNumbers, HasNumber, field_count, field_counts, sums_from, variable_count};
+ghost use Rattle.entry_accesses.specs.Numbered.{AreNumbers, HasNumber, field_count, field_counts};
+ghost use Rattle.entry_accesses.specs.Numbered.{sums_from, variable_count};
 
 use exchange_model::{Block, Exchange, File};
 use plex_num::{Memory, Seq};
 use std::alloc::Global;
 
-/// Where the numbers through an exchange begin: of each block the number of its first variable, and of each file that of its
-/// first field.
+/// Where the numbers through an exchange begin: of each block the number of its first variable, and
+/// of each file that of its first field.
 pub struct CellNumbers {
     pub variables: Seq<u32>,
     pub fields: Seq<u32>,
@@ -82,8 +83,8 @@ fn first_fields(alloc: Global, blocks: &[Block]) -> Result<Seq<u32>, Memory>
     Ok(firsts)
 }
 
-/// Appends the number of the first field of each of these files, where that of the first file is given, and gives the number
-/// after their last field.
+/// Appends the number of the first field of each of these files, where that of the first file is
+/// given, and gives the number after their last field.
 #[tactic(auto, using(crate::proofs::Numbering::sums_begin))]
 fn push_firsts(files: &[File], start: u32, firsts: &mut Seq<u32>) -> Result<u32, Memory>
     requires { start + total (map field_count files.now) < 2 ^ 32 }

@@ -16,8 +16,8 @@ use exchange_model::Exchange;
 use plex_num::{Memory, Seq};
 use std::alloc::Global;
 
-/// These accesses, and that the fields of each file are written of which they free records: in order, each once. A file is looked at
-/// once, however many statements free records of it.
+/// These accesses, and that the fields of each file are written of which they free records: in
+/// order, each once. A file is looked at once, however many statements free records of it.
 pub fn with_opened(
     alloc: Global,
     exchange: &Exchange,

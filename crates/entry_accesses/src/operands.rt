@@ -2,13 +2,16 @@
 ghost use Rattle.std.specs.Prelude.{◌∷◌, [], map, OnOk};
 ghost use Rattle.exchange_model.specs.declared.stmt.StmtKind.{out-StmtKind};
 ghost use Rattle.exchange_model.specs.Inside.{joined, relation_exprs};
-ghost use Rattle.source_meaning.specs.Named.{named_in, named_in_factor, named_in_joined, named_in_term};
-ghost use Rattle.entry_accesses.specs.Operands.{HasNames, cond_names, layer_names, names_in, relation_names};
+ghost use Rattle.source_meaning.specs.Named.{named_in, named_in_factor, named_in_joined};
+ghost use Rattle.source_meaning.specs.Named.{named_in_term};
+ghost use Rattle.entry_accesses.specs.Operands.{HasNames, cond_names, layer_names, names_in};
+ghost use Rattle.entry_accesses.specs.Operands.{relation_names};
 
 use exchange_model::{Cond, Expr, Factor, Joined, Relation, StmtKind, Term};
 use plex_num::{Memory, Seq};
 
-/// What an expression names: a variable of its block, or a field of the record whose number a temporary has.
+/// What an expression names: a variable of its block, or a field of the record whose number a
+/// temporary has.
 #[derive(Clone, Copy)]
 pub enum Operand {
     Variable(u32),

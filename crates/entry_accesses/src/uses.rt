@@ -10,7 +10,8 @@ ghost use Rattle.flow_points.specs.declared.flow.Source.TheVariants as source;
 ghost use Rattle.entry_accesses.specs.declared.uses.Use.TheVariants as use_of;
 ghost use Rattle.entry_accesses.specs.Numbered.{AreNumbers, IsNumbered};
 ghost use Rattle.entry_accesses.specs.Operands.{named};
-ghost use Rattle.entry_accesses.specs.Uses.{done_uses, field_use as field_use_of, field_uses, holder_uses, layer_uses, named_uses, read_uses};
+ghost use Rattle.entry_accesses.specs.Uses.{done_uses, field_use as field_use_of, field_uses};
+ghost use Rattle.entry_accesses.specs.Uses.{holder_uses, layer_uses, named_uses, read_uses};
 
 use crate::numbers::CellNumbers;
 use crate::operands::{Operand, push_layer};
@@ -19,8 +20,9 @@ use flow_points::{Slot, Source, Value};
 use plex_num::{Memory, Seq};
 use std::alloc::Global;
 
-/// What a statement does to stored data, where facts have not yet told the values of pointers. Variables, fields and files
-/// are numbered through the exchange. The fields that FREE opens are told by the file of which it frees a record.
+/// What a statement does to stored data, where facts have not yet told the values of pointers.
+/// Variables, fields and files are numbered through the exchange. The fields that FREE opens are
+/// told by the file of which it frees a record.
 #[derive(Clone, Copy, PartialEq, Eq, PartialOrd, Ord)]
 pub enum Use {
     Variable {
@@ -156,7 +158,8 @@ fn field_use(forlopp: bool, write: bool, number: u32, pointer: u8) -> Use
     }
 }
 
-/// Appends that a statement reads the variable in which the reference to its receiver is held, if it does.
+/// Appends that a statement reads the variable in which the reference to its receiver is held, if
+/// it does.
 fn push_held(here: &NumberedBlock<'_>, kind: &StmtKind, uses: &mut Seq<Use>) -> Result<(), Memory>
     requires of_block { IsOfBlock here.now.exchange.now here.now.block (out-StmtKind kind.now) }
     requires numbers { AreNumbers here.now.exchange.now here.now.numbers.now }

@@ -1,5 +1,6 @@
 -- Expressions are listed, one after the other.
-use Rattle.std.proofs.Common.{◌≡◌, ℕ, ◌+◌, ◌<◌, ◌≤◌, List, [], ◌∷◌, ◌++◌, length, map, drop, get_or, refl, sym, ap, ◌∙◌, subst, append-nil, append_assoc}
+use Rattle.std.proofs.Common.{◌≡◌, ℕ, ◌+◌, ◌<◌, ◌≤◌, List, [], ◌∷◌, ◌++◌, length, map, drop, get_or}
+use Rattle.std.proofs.Common.{refl, sym, ap, ◌∙◌, subst, append-nil, append_assoc}
 use Rattle.std.proofs.Math.ListN.{drop_of_length-le}
 use Rattle.plex_num.proofs.Lists.{opens}
 use Rattle.exchange_model.specs.declared.expr.Expr.{Expr}
@@ -34,14 +35,17 @@ pub record AddsGo {A : Type 0} (f : List A → List Expr) (xs : List A) (old : L
 pub adds_begin : {A : Type 0} (f : List A → List Expr) (xs : List A) (old : List ExprAt) → AddsGo f xs old 0 old
 adds_begin f xs old = record { left = refl }
 
-pub adds_more : {A : Type 0} (f : List A → List Expr) (xs : List A) (i : ℕ) (x : A) (old now new : List ExprAt) (a : List Expr) → i < length xs → x ≡ get_or xs i x → ((rest : List A) → f (x ∷ rest) ≡ a ++ f rest) → AddsExprs now new a → AddsGo f xs old i now → AddsGo f xs old (i + 1) new
+pub adds_more : {A : Type 0} (f : List A → List Expr) (xs : List A) (i : ℕ) (x : A) (old now new : List ExprAt)
+    (a : List Expr) → i < length xs → x ≡ get_or xs i x → ((rest : List A) → f (x ∷ rest) ≡ a ++ f rest)
+    → AddsExprs now new a → AddsGo f xs old i now → AddsGo f xs old (i + 1) new
 adds_more f xs i x old now new a lt is opened h g = record {
   left =
       ap (λ l. l ++ f (drop (i + 1) xs)) h.is ∙ append_assoc (map expr_seen now) a (f (drop (i + 1) xs))
       ∙ ap (λ l. map expr_seen now ++ l) (sym (opened (drop (i + 1) xs)) ∙ ap f (sym (opens xs i x lt is))) ∙ g.left;
 }
 
-pub adds_end : {A : Type 0} (f : List A → List Expr) (xs : List A) (i : ℕ) (old now : List ExprAt) → f [] ≡ [] → length xs ≤ i → AddsGo f xs old i now → AddsExprs old now (f xs)
+pub adds_end : {A : Type 0} (f : List A → List Expr) (xs : List A) (i : ℕ) (old now : List ExprAt) → f [] ≡ []
+    → length xs ≤ i → AddsGo f xs old i now → AddsExprs old now (f xs)
 adds_end f xs i old now none past g = record {
   is = sym (append-nil (map expr_seen now)) ∙ ap (λ l. map expr_seen now ++ l) (sym none ∙ ap f (sym (drop_of_length-le xs past))) ∙ g.left;
 }

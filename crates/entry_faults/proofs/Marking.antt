@@ -1,5 +1,7 @@
 -- Marks, read and set.
-use Rattle.std.proofs.Common.{◌≡◌, ℕ, zero, suc, ◌+◌, ◌<◌, Bool, true, false, nat_eq, if◌then◌else◌, List, [], ◌∷◌, ◌++◌, length, map, take, Option, Some, None, slice_get, slice_set, refl, sym, ap, ◌∙◌, subst, arith, add-one}
+use Rattle.std.proofs.Common.{◌≡◌, ℕ, zero, suc, ◌+◌, ◌<◌, Bool, true, false, nat_eq, if◌then◌else◌}
+use Rattle.std.proofs.Common.{List, [], ◌∷◌, ◌++◌, length, map, take, Option, Some, None, slice_get}
+use Rattle.std.proofs.Common.{slice_set, refl, sym, ap, ◌∙◌, subst, arith, add-one}
 use Rattle.std.specs.Prelude.{unwrap_or}
 use Rattle.std.specs.Option.{option_map}
 use Rattle.std.proofs.lemmas.Bool.{eqb-true, eqb-false}
@@ -37,7 +39,8 @@ kept_is : (m : List Mark) (p : ℕ) (k : Mark) (o : Option Mark) → slice_get m
 kept_is m p k None none e other = absurd (let clash : true ≡ false = ap is_closed e ∙ other in cc)
 kept_is m p k (Some j) some e other = some ∙ ap Some e
 
-marked_by : (r : List Bool) (m : List Mark) (p : ℕ) (k : Mark) (t : Bool) → is_in r p ≡ t → (if t then kept_mark m p else Closed) ≡ k → is_closed k ≡ false → IsMarked r m p k
+marked_by : (r : List Bool) (m : List Mark) (p : ℕ) (k : Mark) (t : Bool) → is_in r p ≡ t
+    → (if t then kept_mark m p else Closed) ≡ k → is_closed k ≡ false → IsMarked r m p k
 marked_by r m p k true is e other = record { is_reached = is; kept = kept_is m p k (slice_get m p) refl e other }
 marked_by r m p k false is e other = absurd (let clash : true ≡ false = ap is_closed e ∙ other in cc)
 
@@ -56,7 +59,8 @@ open_within r m p is = slice_get_within m p Open (marked r m p Open is refl).kep
 mark_set_same : (r : List Bool) (m : List Mark) (p : ℕ) (j k : Mark) → IsMarked r m p j → mark_at r (slice_set m p k) p ≡ k
 unfolding mark_at
 mark_set_same r m p j k h =
-    ap (λ t. if t then kept_mark (slice_set m p k) p else Closed) h.is_reached ∙ ap (λ o. unwrap_or o Closed) (get_set_same m p k (slice_get_within m p j h.kept))
+    ap (λ t. if t then kept_mark (slice_set m p k) p else Closed) h.is_reached
+    ∙ ap (λ o. unwrap_or o Closed) (get_set_same m p k (slice_get_within m p j h.kept))
 
 mark_set_other : (r : List Bool) (m : List Mark) (p q : ℕ) (k : Mark) → (q ≡ p → ⊥) → mark_at r (slice_set m p k) q ≡ mark_at r m q
 unfolding mark_at
@@ -95,7 +99,8 @@ fresh_by r p None none = not_there (ap (λ u. unwrap_or u false) none) (ap (λ u
 fresh_by r p (Some false) some = not_there (ap (λ u. unwrap_or u false) some) (ap (λ u. if unwrap_or u false then kept_mark (fresh r) p else Closed) some)
 fresh_by r p (Some true) some =
     seen_new (ap (λ u. unwrap_or u false) some)
-    (ap (λ u. if unwrap_or u false then kept_mark (fresh r) p else Closed) some ∙ ap (λ u. unwrap_or u Closed) (slice_get-map (λ _. New) r p ∙ ap (option_map (λ _. New)) some))
+    (ap (λ u. if unwrap_or u false then kept_mark (fresh r) p else Closed) some
+    ∙ ap (λ u. unwrap_or u Closed) (slice_get-map (λ _. New) r p ∙ ap (option_map (λ _. New)) some))
 
 pub is_fresh : (r : List Bool) (p : ℕ) → IsFresh r p
 is_fresh r p = fresh_by r p (slice_get r p) refl

@@ -1,5 +1,7 @@
 -- Closed points are passed over.
-use Rattle.std.proofs.Common.{◌≡◌, ◌⊎◌, inl, inr, ⊎_elim, ℕ, zero, suc, ◌+◌, ◌<◌, ◌≤◌, Bool, true, false, nat_eq, List, [], ◌∷◌, length, drop, get_or, Option, Some, None, refl, sym, ap, ◌∙◌, subst, arith, add-one, drop-cons}
+use Rattle.std.proofs.Common.{◌≡◌, ◌⊎◌, inl, inr, ⊎_elim, ℕ, zero, suc, ◌+◌, ◌<◌, ◌≤◌, Bool, true}
+use Rattle.std.proofs.Common.{false, nat_eq, List, [], ◌∷◌, length, drop, get_or, Option, Some}
+use Rattle.std.proofs.Common.{None, refl, sym, ap, ◌∙◌, subst, arith, add-one, drop-cons}
 use Rattle.std.specs.List.{Contains}
 use Rattle.std.proofs.Math.ListN.{drop_of_length-le}
 use Rattle.std.proofs.lemmas.Bool.{eqb-true}
@@ -26,7 +28,8 @@ passes_begin r m ends = record { to = λ q c. inr c }
 at_point : (ends : List ℕ) (i : ℕ) → i < length ends → drop i ends ≡ get_or ends i 0 ∷ drop (i + 1) ends
 at_point ends i lt = drop-cons ends i 0 lt ∙ ap (λ n. get_or ends i 0 ∷ drop n ends) (sym (add-one i))
 
-pub passes_more : (r : List Bool) (m : List Mark) (ends : List ℕ) (i : ℕ) (t : Bool) → i < length ends → t ≡ is_closed (mark_at r m (get_or ends i 0)) → t ≡ true → PassesGo r m ends i → PassesGo r m ends (i + 1)
+pub passes_more : (r : List Bool) (m : List Mark) (ends : List ℕ) (i : ℕ) (t : Bool) → i < length ends
+    → t ≡ is_closed (mark_at r m (get_or ends i 0)) → t ≡ true → PassesGo r m ends i → PassesGo r m ends (i + 1)
 passes_more r m ends i t lt test closed g = record {
   to = λ q c.
       ⊎_elim inl
@@ -43,14 +46,17 @@ from_drop xs zero q c = c
 from_drop [] (suc n) q c = c
 from_drop (x ∷ xs) (suc n) q c = later_is x q xs (from_drop xs n q c)
 
-pub passes_stop : (r : List Bool) (m : List Mark) (ends : List ℕ) (i : ℕ) (t : Bool) (rest : List ℕ) → i < length ends → t ≡ is_closed (mark_at r m (get_or ends i 0)) → t ≡ false → rest ≡ drop i ends → PassesGo r m ends i → Passes r m ends rest
+pub passes_stop : (r : List Bool) (m : List Mark) (ends : List ℕ) (i : ℕ) (t : Bool) (rest : List ℕ) → i < length ends
+    → t ≡ is_closed (mark_at r m (get_or ends i 0)) → t ≡ false → rest ≡ drop i ends → PassesGo r m ends i
+    → Passes r m ends rest
 passes_stop r m ends i t rest lt test other same g = record {
   to = λ q c. subst (λ l. (mark_at r m q ≡ Closed) ⊎ Contains l q) (sym same) (g.to q c);
   from = λ q c. from_drop ends i q (subst (λ l. Contains l q) same c);
   first = subst (IsUnclosed r m) (sym (same ∙ at_point ends i lt)) (sym test ∙ other);
 }
 
-pub passes_end : (r : List Bool) (m : List Mark) (ends : List ℕ) (i : ℕ) (rest : List ℕ) → length ends ≤ i → rest ≡ drop (length ends) ends → PassesGo r m ends i → Passes r m ends rest
+pub passes_end : (r : List Bool) (m : List Mark) (ends : List ℕ) (i : ℕ) (rest : List ℕ) → length ends ≤ i
+    → rest ≡ drop (length ends) ends → PassesGo r m ends i → Passes r m ends rest
 passes_end r m ends i rest past same g =
     let none : rest ≡ [] = same ∙ drop_of_length-le ends (omega arith) in
     record {
@@ -73,7 +79,8 @@ lead_later t xs zero q l = l
 lead_later t [] (suc n) q l = l
 lead_later t (x ∷ xs) (suc n) q l = (let k = lead_later t xs n q l in record { way = k.way; one = later_is x k.way xs k.one; end = k.end })
 
-lead_at : (t : FlowTable) (ways : List Way) (i : ℕ) (way : Way) (q : ℕ) → i < length ways → way ≡ get_or ways i way → Contains (ends_of t way.ends) q → LeadTo t ways q
+lead_at : (t : FlowTable) (ways : List Way) (i : ℕ) (way : Way) (q : ℕ) → i < length ways → way ≡ get_or ways i way
+    → Contains (ends_of t way.ends) q → LeadTo t ways q
 lead_at t ways i way q lt is c =
     lead_later t ways i q (subst (λ l. LeadTo t l q) (sym (opens ways i way lt is)) (record { way = way; one = first_is way (drop (i + 1) ways); end = c }))
 
@@ -93,7 +100,9 @@ moves_begin t r m f ends p = record {
 }
 
 -- nothing was left of the ends so far
-pub moves_more : (t : FlowTable) (r : List Bool) (m : List Mark) (f : Frame) (i : ℕ) (way : Way) (ends new : List ℕ) → i < length f.ways.now → way ≡ get_or f.ways.now i way → ends ≡ [] → Passes r m (ends_of t way.ends) new → MovesGo t r m f i ends → MovesGo t r m f (i + 1) new
+pub moves_more : (t : FlowTable) (r : List Bool) (m : List Mark) (f : Frame) (i : ℕ) (way : Way) (ends new : List ℕ)
+    → i < length f.ways.now → way ≡ get_or f.ways.now i way → ends ≡ [] → Passes r m (ends_of t way.ends) new
+    → MovesGo t r m f i ends → MovesGo t r m f (i + 1) new
 moves_more t r m f i way ends new lt is none p g = record {
   to = λ q left.
       ⊎_elim inl
@@ -119,20 +128,27 @@ stops_last : (t : FlowTable) (r : List Bool) (m : List Mark) (ends : List ℕ) �
 stops_last t r m [] first = λ q l. no_lead t q l
 stops_last t r m (q ∷ qs) first = first
 
-pub moves_stop : (t : FlowTable) (r : List Bool) (m : List Mark) (f : Frame) (i : ℕ) (ends : List ℕ) (g : Frame) → g.point ≡ f.point → g.ends.now ≡ ends → g.ways.now ≡ drop i f.ways.now → (ends ≡ [] → ⊥) → MovesGo t r m f i ends → Moves t r m f g
+pub moves_stop : (t : FlowTable) (r : List Bool) (m : List Mark) (f : Frame) (i : ℕ) (ends : List ℕ) (g : Frame)
+    → g.point ≡ f.point → g.ends.now ≡ ends → g.ways.now ≡ drop i f.ways.now → (ends ≡ [] → ⊥) → MovesGo t r m f i ends
+    → Moves t r m f g
 moves_stop t r m f i ends g point same ways some h = record {
   point = point;
-  to = λ q left. ⊎_elim inl (λ among. inr (subst (λ ws. Among t g.ends.now ws q) (sym ways) (subst (λ es. Among t es (drop i f.ways.now) q) (sym same) among))) (h.to q left);
+  to = λ q left. ⊎_elim inl (λ among. inr (subst (λ ws. Among t g.ends.now ws q) (sym ways)
+      (subst (λ es. Among t es (drop i f.ways.now) q) (sym same) among))) (h.to q left);
   from = λ q left. ⊎_elim (λ c. h.from q (subst (λ l. Contains l q) same c)) (λ l. inr (lead_later t f.ways.now i q (subst (λ ws. LeadTo t ws q) ways l))) left;
   stops = subst (λ es. Stops t r m es g.ways.now) (sym same) (stops_some t r m ends g.ways.now some h.first);
 }
 
-pub moves_end : (t : FlowTable) (r : List Bool) (m : List Mark) (f : Frame) (i : ℕ) (ends : List ℕ) (g : Frame) → length f.ways.now ≤ i → g.point ≡ f.point → g.ends.now ≡ ends → g.ways.now ≡ drop (length f.ways.now) f.ways.now → MovesGo t r m f i ends → Moves t r m f g
+pub moves_end : (t : FlowTable) (r : List Bool) (m : List Mark) (f : Frame) (i : ℕ) (ends : List ℕ) (g : Frame)
+    → length f.ways.now ≤ i → g.point ≡ f.point → g.ends.now ≡ ends → g.ways.now ≡ drop (length f.ways.now) f.ways.now
+    → MovesGo t r m f i ends → Moves t r m f g
 moves_end t r m f i ends g past point same ways h =
     let none : g.ways.now ≡ [] = ways ∙ drop_of_length-le f.ways.now (omega arith) in
     record {
       point = point;
-      to = λ q left. ⊎_elim inl (λ among. ⊎_elim (λ c. inr (inl (subst (λ l. Contains l q) (sym same) c))) (λ l. absurd (no_lead t q (subst (λ ws. LeadTo t ws q) (drop_of_length-le f.ways.now past) l))) among) (h.to q left);
+      to = λ q left. ⊎_elim inl (λ among. ⊎_elim (λ c. inr (inl (subst (λ l. Contains l q) (sym same) c)))
+          (λ l. absurd (no_lead t q (subst (λ ws. LeadTo t ws q) (drop_of_length-le f.ways.now past) l))) among)
+          (h.to q left);
       from = λ q left. ⊎_elim (λ c. h.from q (subst (λ l. Contains l q) same c)) (λ l. absurd (no_lead t q (subst (λ ws. LeadTo t ws q) none l))) left;
       stops = subst (λ es. Stops t r m es g.ways.now) (sym same) (subst (Stops t r m ends) (sym none) (stops_last t r m ends h.first));
     }
@@ -154,7 +170,8 @@ pub record IsFirst (r : List Bool) (m : List Mark) (ends : List ℕ) (q : ℕ) :
   pub one : Contains ends q
   pub other : is_closed (mark_at r m q) ≡ false
 
-pub first_some : (t : FlowTable) (r : List Bool) (m : List Mark) (ends : List ℕ) (ways : List Way) (q : ℕ) → first ends ≡ Some q → Stops t r m ends ways → IsFirst r m ends q
+pub first_some : (t : FlowTable) (r : List Bool) (m : List Mark) (ends : List ℕ) (ways : List Way) (q : ℕ)
+    → first ends ≡ Some q → Stops t r m ends ways → IsFirst r m ends q
 first_some t r m [] ways q e stops = absurd (let clash : None ≡ Some q = e in cc)
 first_some t r m (p ∷ ps) ways q e stops =
     let same : p ≡ q = ap (λ o. value p o) e in

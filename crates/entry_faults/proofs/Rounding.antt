@@ -1,5 +1,7 @@
 -- The ways of the table from the points that are reached are the flows from them.
-use Rattle.std.proofs.Common.{◌≡◌, ⊎_elim, ℕ, zero, suc, ◌+◌, ◌<◌, ◌≤◌, Bool, true, false, List, [], ◌∷◌, ◌++◌, length, map, get_or, Option, Some, None, Result, Ok, Err, IfOk, slice_get, refl, sym, ap, ◌∙◌, subst, arith}
+use Rattle.std.proofs.Common.{◌≡◌, ⊎_elim, ℕ, zero, suc, ◌+◌, ◌<◌, ◌≤◌, Bool, true, false, List, []}
+use Rattle.std.proofs.Common.{◌∷◌, ◌++◌, length, map, get_or, Option, Some, None, Result, Ok, Err}
+use Rattle.std.proofs.Common.{IfOk, slice_get, refl, sym, ap, ◌∙◌, subst, arith}
 use Rattle.std.specs.Prelude.{◌↔◌, unwrap_or}
 use Rattle.std.specs.List.{Contains}
 use Rattle.std.proofs.lemmas.Bool.{cases_lt}
@@ -26,7 +28,8 @@ use Rattle.flow_table.specs.Ways.{IsWayEnd}
 use Rattle.flow_table.proofs.Rowing.{place_fits}
 use Rattle.entry_summary.specs.Faults.{FlowLeads, Walk, Once, Then, GoesRound}
 use Rattle.entry_faults.specs.Marks.{is_in}
-use Rattle.entry_faults.specs.Circles.{ends_of, ways_in, ways_at, LeadTo, Leads, Route, One, More, Circles}
+use Rattle.entry_faults.specs.Circles.{ends_of, ways_in, ways_at, LeadTo, Leads, Route, One, More}
+use Rattle.entry_faults.specs.Circles.{Circles}
 use Rattle.entry_faults.specs.Reaching.{AreReached}
 use Rattle.entry_faults.proofs.Marking.{in_within}
 
@@ -44,7 +47,9 @@ get_at [] i at lt is = absurd (omega arith)
 get_at (a ∷ places) zero at lt is = ap Some (sym is)
 get_at (a ∷ places) (suc i) at lt is = get_at places i at (omega arith) is
 
-pub reached_more : (P : Facts) (e : ℕ) (places : List PlaceAt) (i : ℕ) (at : PlaceAt) (b : Bool) (now new : List Bool) → i < length places → at ≡ get_or places i at → ((b ≡ true) ↔ Reached P e at.point) → new ≡ now ++ b ∷ [] → ReachedGo P e places i now → ReachedGo P e places (i + 1) new
+pub reached_more : (P : Facts) (e : ℕ) (places : List PlaceAt) (i : ℕ) (at : PlaceAt) (b : Bool) (now new : List Bool)
+    → i < length places → at ≡ get_or places i at → ((b ≡ true) ↔ Reached P e at.point) → new ≡ now ++ b ∷ []
+    → ReachedGo P e places i now → ReachedGo P e places (i + 1) new
 reached_more P e places i at b now new lt is exact made g = record {
   long = (let l = ap length made ∙ length_push now b in let h = g.long in omega (arith, l, h));
   exact = λ p a below there. ⊎_elim (λ before. old p a before there) (λ from. last p a (let e : p ≡ i = omega (arith, below, from) in e) there) (cases_lt p i);
@@ -52,17 +57,21 @@ reached_more P e places i at b now new lt is exact made g = record {
   where
     old : (p : ℕ) (a : PlaceAt) → p < i → slice_get places p ≡ Some a → (is_in new p ≡ true) ↔ Reached P e a.point
     old p a before there =
-        let same : is_in new p ≡ is_in now p = ap (λ l. is_in l p) made ∙ ap (λ o. unwrap_or o false) (slice_get-append_left now (b ∷ []) p (let h = g.long in omega (arith, h, before))) in
+        let same : is_in new p ≡ is_in now p = ap (λ l. is_in l p) made
+        ∙ ap (λ o. unwrap_or o false) (slice_get-append_left now (b ∷ []) p
+        (let h = g.long in omega (arith, h, before))) in
         let h = g.exact p a before there in
         (λ yes_is. h.0 (sym same ∙ yes_is), λ r. same ∙ h.1 r)
 
     last : (p : ℕ) (a : PlaceAt) → p ≡ i → slice_get places p ≡ Some a → (is_in new p ≡ true) ↔ Reached P e a.point
     last p a here there =
-        let same : is_in new p ≡ b = ap (λ l. is_in l p) made ∙ ap (λ n. is_in (now ++ b ∷ []) n) (here ∙ sym g.long) ∙ ap (λ o. unwrap_or o false) (slice_get-append_seam now b []) in
+        let same : is_in new p ≡ b = ap (λ l. is_in l p) made ∙ ap (λ n. is_in (now ++ b ∷ []) n) (here ∙ sym g.long)
+        ∙ ap (λ o. unwrap_or o false) (slice_get-append_seam now b []) in
         let one : at ≡ a = same_Some at a (sym (get_at places i at lt is) ∙ ap (slice_get places) (sym here) ∙ there) in
         subst (λ (q : PlaceAt). (is_in new p ≡ true) ↔ Reached P e q.point) one (λ yes_is. exact.0 (sym same ∙ yes_is), λ r. same ∙ exact.1 r)
 
-pub reached_end : (P : Facts) (e : ℕ) (places : List PlaceAt) (i : ℕ) (now : List Bool) → i ≤ length places → length places ≤ i → ReachedGo P e places i now → AreReached P e places now
+pub reached_end : (P : Facts) (e : ℕ) (places : List PlaceAt) (i : ℕ) (now : List Bool) → i ≤ length places
+    → length places ≤ i → ReachedGo P e places i now → AreReached P e places now
 reached_end P e places i now low high g = record {
   long = (let h = g.long in omega (arith, h, low, high));
   exact = λ p at there. g.exact p at (let lt = slice_get_within places p at there in omega (arith, lt, high)) there;
@@ -70,7 +79,8 @@ reached_end P e places i now low high g = record {
 
 -- a place that is seen
 
-seen_from : (places : List PlaceAt) (p : ℕ) (q : Place) → slice_get (map seen places) p ≡ Some q → (at : PlaceAt) × (slice_get places p ≡ Some at) × (seen at ≡ q)
+seen_from : (places : List PlaceAt) (p : ℕ) (q : Place) → slice_get (map seen places) p ≡ Some q
+    → (at : PlaceAt) × (slice_get places p ≡ Some at) × (seen at ≡ q)
 seen_from [] p q there = absurd (none-some q there)
 seen_from (a ∷ places) zero q there = (a, refl, same_Some (seen a) q there)
 seen_from (a ∷ places) (suc p) q there = seen_from places p q there
@@ -82,10 +92,13 @@ answer_signal s answer count None none fits = absurd fits
 answer_signal s answer count (Some k) some fits = slice_get_within s.signals answer k some
 
 retrieve_signal : (s : Scope) (l : Layer) (answer : ℕ) → retrieved l ≡ Some answer → KindNames s l → answer < length s.signals
-retrieve_signal s (layer.Retrieve m temps) answer is names = subst (λ n. n < length s.signals) (same_Some m answer is) (answer_signal s m (length temps) (slice_get s.signals m) refl names.0)
+retrieve_signal s (layer.Retrieve m temps) answer is names = subst (λ n. n < length s.signals) (same_Some m answer is)
+    (answer_signal s m (length temps) (slice_get s.signals m) refl names.0)
 retrieve_signal s _ answer is names = absurd (none-some answer is)
 
-module _ (x : Exchange) (P : Facts) (e : ℕ) (t : FlowTable) (places : List PlaceAt) (r : List Bool) (kept : IsExchange x) (table : IsFlowTable x t) (are : ArePlaces x (map seen places)) (reached : AreReached P e places r) where
+module _ (x : Exchange) (P : Facts) (e : ℕ) (t : FlowTable) (places : List PlaceAt) (r : List Bool)
+    (kept : IsExchange x) (table : IsFlowTable x t) (are : ArePlaces x (map seen places))
+    (reached : AreReached P e places r) where
   reach : (p : ℕ) (at : Place) → StandsAt x p at → (is_in r p ≡ true) ↔ Reached P e p
   reach p at stands =
       let found = seen_from places p at (are.listed p at stands) in
@@ -130,7 +143,12 @@ module _ (x : Exchange) (P : Facts) (e : ℕ) (t : FlowTable) (places : List Pla
         stands = found.1;
         reached = (reach p found.0 found.1).0 l.from;
         how = lead.way.how;
-        leads = (row.is.ways.exact q lead.way.how).0 (record { way = lead.way; one = lead.one; leads = record { end = end_is lead.way.ends q lead.end; is = refl } });
+        leads = (row.is.ways.exact q lead.way.how).0
+            (record {
+              way = lead.way;
+              one = lead.one;
+              leads = record { end = end_is lead.way.ends q lead.end; is = refl };
+            });
       }
 
   leads : (p q : ℕ) → FlowLeads x P e p q → Leads t r p q
@@ -139,7 +157,8 @@ module _ (x : Exchange) (P : Facts) (e : ℕ) (t : FlowTable) (places : List Pla
       let lead = (row.is.ways.exact q g.how).1 g.leads in
       record {
         from = (reach p g.at g.stands).1 g.reached;
-        leads = subst (λ ws. LeadTo t ws q) (sym (ways_are p g.at g.stands)) (record { way = lead.way; one = lead.one; end = is_end lead.way.ends q lead.leads.end });
+        leads = subst (λ ws. LeadTo t ws q) (sym (ways_are p g.at g.stands))
+            (record { way = lead.way; one = lead.one; end = is_end lead.way.ends q lead.leads.end });
       }
 
   walk_of : (p q : ℕ) → Route t r p q → Walk x P e p q

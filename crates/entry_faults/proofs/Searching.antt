@@ -1,5 +1,7 @@
 -- A search goes on, and comes to its end.
-use Rattle.std.proofs.Common.{◌≡◌, ◌⊎◌, inl, inr, ⊎_elim, ℕ, zero, suc, ◌+◌, ◌-◌, ◌<◌, ◌≤◌, Bool, true, false, List, [], ◌∷◌, ◌++◌, length, reverse, take, Some, None, slice_set, refl, sym, ap, ◌∙◌, subst, arith, append-nil}
+use Rattle.std.proofs.Common.{◌≡◌, ◌⊎◌, inl, inr, ⊎_elim, ℕ, zero, suc, ◌+◌, ◌-◌, ◌<◌, ◌≤◌, Bool}
+use Rattle.std.proofs.Common.{true, false, List, [], ◌∷◌, ◌++◌, length, reverse, take, Some, None}
+use Rattle.std.proofs.Common.{slice_set, refl, sym, ap, ◌∙◌, subst, arith, append-nil}
 use Rattle.std.specs.Prelude.{◌↔◌}
 use Rattle.std.specs.List.{Contains}
 use Rattle.std.proofs.lemmas.Bool.{cases_lt}
@@ -12,13 +14,17 @@ use Rattle.entry_faults.specs.declared.mark.Mark.TheVariants.{New, Open, Closed}
 use Rattle.entry_faults.specs.Marks.{is_in, mark_at, is_closed}
 use Rattle.entry_faults.specs.Circles.{LeadTo, ways_at, Leads, Route, One, More, Circles}
 use Rattle.entry_faults.specs.Frames.{first, Begins, Stops, Moves}
-use Rattle.entry_faults.specs.Searches.{IsOn, IsFrame, LedFrom, IsPath, Sound, Opens, NoneNew, GoesOn, IsOver}
-use Rattle.entry_faults.proofs.Marking.{closed_clash, two_marks, IsMarked, marked, AfterSet, it, another, after_set, weight_set, fresh, IsFresh, seen_new, not_there, is_fresh, in_within}
+use Rattle.entry_faults.specs.Searches.{IsOn, IsFrame, LedFrom, IsPath, Sound, Opens, NoneNew}
+use Rattle.entry_faults.specs.Searches.{GoesOn, IsOver}
+use Rattle.entry_faults.proofs.Marking.{closed_clash, two_marks, IsMarked, marked, AfterSet, it}
+use Rattle.entry_faults.proofs.Marking.{another, after_set, weight_set, fresh, IsFresh, seen_new}
+use Rattle.entry_faults.proofs.Marking.{not_there, is_fresh, in_within}
 use Rattle.entry_faults.proofs.Passing.{first_none, first_some}
 
 -- routes
 
-closed_far : (t : FlowTable) (r : List Bool) (m : List Mark) (stack : List Frame) → Sound t r m stack → (p q : ℕ) → mark_at r m p ≡ Closed → Route t r p q → mark_at r m q ≡ Closed
+closed_far : (t : FlowTable) (r : List Bool) (m : List Mark) (stack : List Frame) → Sound t r m stack → (p q : ℕ)
+    → mark_at r m p ≡ Closed → Route t r p q → mark_at r m q ≡ Closed
 closed_far t r m stack s p q closed (One l) = s.closed p q closed l
 closed_far t r m stack s p q closed (More l rest) = closed_far t r m stack s _ q (s.closed p _ closed l) rest
 
@@ -37,7 +43,8 @@ path_open t r m [] p h on = absurd on
 path_open t r m (f ∷ rest) p h (inl e) = subst (λ n. mark_at r m n ≡ Open) e h.0.frame.is_open
 path_open t r m (f ∷ rest) p h (inr on) = path_open t r m rest p h.1 on
 
-path_route : (t : FlowTable) (r : List Bool) (m : List Mark) (f : Frame) (rest : List Frame) (q : ℕ) → IsPath t r m (f ∷ rest) → IsOn (f ∷ rest) q → (q ≡ f.point) ⊎ Route t r q f.point
+path_route : (t : FlowTable) (r : List Bool) (m : List Mark) (f : Frame) (rest : List Frame) (q : ℕ)
+    → IsPath t r m (f ∷ rest) → IsOn (f ∷ rest) q → (q ≡ f.point) ⊎ Route t r q f.point
 path_route t r m f rest q h (inl e) = inl (sym e)
 path_route t r m f [] q h (inr on) = absurd on
 path_route t r m f (g ∷ rest) q h (inr on) =
@@ -47,7 +54,9 @@ path_route t r m f (g ∷ rest) q h (inr on) =
     (λ w. push_route t r q g.point f.point w h.0.led)
     (path_route t r m g rest q h.1 on))
 
-path_kept : (t : FlowTable) (r : List Bool) (m n : List Mark) (stack : List Frame) → ((q : ℕ) → mark_at r m q ≡ Closed → mark_at r n q ≡ Closed) → ((q : ℕ) → IsOn stack q → mark_at r n q ≡ Open) → IsPath t r m stack → IsPath t r n stack
+path_kept : (t : FlowTable) (r : List Bool) (m n : List Mark) (stack : List Frame)
+    → ((q : ℕ) → mark_at r m q ≡ Closed → mark_at r n q ≡ Closed) → ((q : ℕ) → IsOn stack q → mark_at r n q ≡ Open)
+    → IsPath t r m stack → IsPath t r n stack
 path_kept t r m n [] closed on h = tt
 path_kept t r m n (f ∷ rest) closed on h = (
   record {
@@ -64,7 +73,8 @@ path_kept t r m n (f ∷ rest) closed on h = (
 
 -- back from a point of which all ends are closed
 
-module _ (t : FlowTable) (r : List Bool) (m : List Mark) (f : Frame) (rest : List Frame) (s : Sound t r m (f ∷ rest)) (ends : (q : ℕ) → Leads t r f.point q → mark_at r m q ≡ Closed) where
+module _ (t : FlowTable) (r : List Bool) (m : List Mark) (f : Frame) (rest : List Frame) (s : Sound t r m (f ∷ rest))
+    (ends : (q : ℕ) → Leads t r f.point q → mark_at r m q ≡ Closed) where
   abbrev shut : List Mark
   shut = slice_set m f.point Closed
 
@@ -96,7 +106,8 @@ module _ (t : FlowTable) (r : List Bool) (m : List Mark) (f : Frame) (rest : Lis
   shut_none p c w = by (shut_at p)
     where
       by : AfterSet r m f.point Closed p → ⊥
-      by (it e is) = two_marks (mark_at r m f.point) Open Closed (λ k. (let clash : 1 ≡ 0 = k in omega (arith, clash))) s.path.0.frame.is_open (shut_end f.point (subst (λ n. Route t r n n) e w))
+      by (it e is) = two_marks (mark_at r m f.point) Open Closed (λ k. (let clash : 1 ≡ 0 = k in omega (arith, clash)))
+          s.path.0.frame.is_open (shut_end f.point (subst (λ n. Route t r n n) e w))
       by (another differ is) = s.none p (sym is ∙ c) w
 
   shut_on : (q : ℕ) → IsOn rest q → mark_at r shut q ≡ Open
@@ -134,7 +145,8 @@ module _ (t : FlowTable) (r : List Bool) (m : List Mark) (f : Frame) (rest : Lis
 
 -- on to a new point
 
-module _ (t : FlowTable) (r : List Bool) (m : List Mark) (stack : List Frame) (p : ℕ) (g : Frame) (s : Sound t r m stack) (led : LedFrom t r stack p) (is_new : mark_at r m p ≡ New) (begins : Begins t p g) where
+module _ (t : FlowTable) (r : List Bool) (m : List Mark) (stack : List Frame) (p : ℕ) (g : Frame)
+    (s : Sound t r m stack) (led : LedFrom t r stack p) (is_new : mark_at r m p ≡ New) (begins : Begins t p g) where
   abbrev opened : List Mark
   opened = slice_set m p Open
 
@@ -155,7 +167,8 @@ module _ (t : FlowTable) (r : List Bool) (m : List Mark) (stack : List Frame) (p
   opened_closed q c = by (opened_at q)
     where
       by : AfterSet r m p Open q → mark_at r opened q ≡ Closed
-      by (it e is) = two_marks (mark_at r m q) Closed New (λ k. (let clash : 0 ≡ 2 = k in omega (arith, clash))) c (subst (λ n. mark_at r m n ≡ New) (sym e) is_new)
+      by (it e is) = two_marks (mark_at r m q) Closed New (λ k. (let clash : 0 ≡ 2 = k in omega (arith, clash))) c
+          (subst (λ n. mark_at r m n ≡ New) (sym e) is_new)
       by (another differ is) = is ∙ c
 
   was_closed : (q : ℕ) → mark_at r opened q ≡ Closed → mark_at r m q ≡ Closed
@@ -173,7 +186,8 @@ module _ (t : FlowTable) (r : List Bool) (m : List Mark) (stack : List Frame) (p
       by (another differ is) = is ∙ path_open t r m stack q s.path on
 
   opened_once : IsOn stack g.point → ⊥
-  opened_once on = two_marks (mark_at r m p) Open New (λ k. (let clash : 1 ≡ 2 = k in omega (arith, clash))) (subst (λ n. mark_at r m n ≡ Open) begins.point (path_open t r m stack g.point s.path on)) is_new
+  opened_once on = two_marks (mark_at r m p) Open New (λ k. (let clash : 1 ≡ 2 = k in omega (arith, clash)))
+      (subst (λ n. mark_at r m n ≡ Open) begins.point (path_open t r m stack g.point s.path on)) is_new
 
   opened_frame : IsFrame t r opened g
   opened_frame = record {
@@ -223,7 +237,8 @@ module _ (t : FlowTable) (r : List Bool) (m : List Mark) (stack : List Frame) (p
 
 -- past closed ends
 
-pub moved : (t : FlowTable) (r : List Bool) (m : List Mark) (f g : Frame) (rest : List Frame) → Sound t r m (f ∷ rest) → Moves t r m f g → Sound t r m (g ∷ rest)
+pub moved : (t : FlowTable) (r : List Bool) (m : List Mark) (f g : Frame) (rest : List Frame) → Sound t r m (f ∷ rest)
+    → Moves t r m f g → Sound t r m (g ∷ rest)
 moved t r m f g rest s h = record {
   closed = s.closed;
   none = s.none;
@@ -244,7 +259,9 @@ moved t r m f g rest s h = record {
 
 -- one step
 
-nothing_left : (t : FlowTable) (r : List Bool) (m : List Mark) (f g : Frame) (rest : List Frame) → Sound t r m (g ∷ rest) → Moves t r m f g → first g.ends.now ≡ None → (q : ℕ) → Leads t r g.point q → mark_at r m q ≡ Closed
+nothing_left : (t : FlowTable) (r : List Bool) (m : List Mark) (f g : Frame) (rest : List Frame)
+    → Sound t r m (g ∷ rest) → Moves t r m f g → first g.ends.now ≡ None → (q : ℕ) → Leads t r g.point q
+    → mark_at r m q ≡ Closed
 nothing_left t r m f g rest s h none q l =
     let empty = first_none g.ends.now none in
     let stops : Stops t r m [] g.ways.now = subst (λ es. Stops t r m es g.ways.now) empty h.stops in
@@ -253,29 +270,39 @@ nothing_left t r m f g rest s h none q l =
     (λ left. ⊎_elim (λ c. absurd (none_in q (subst (λ es. Contains es q) empty c))) (λ k. absurd (stops q k)) left)
     (s.path.0.frame.to q l)
 
-pub step_back : (t : FlowTable) (r : List Bool) (m new : List Mark) (f g : Frame) (rest : List Frame) → Sound t r m (f ∷ rest) → Moves t r m f g → first g.ends.now ≡ None → new ≡ slice_set m g.point Closed → GoesOn t r m new rest
+pub step_back : (t : FlowTable) (r : List Bool) (m new : List Mark) (f g : Frame) (rest : List Frame)
+    → Sound t r m (f ∷ rest) → Moves t r m f g → first g.ends.now ≡ None → new ≡ slice_set m g.point Closed
+    → GoesOn t r m new rest
 step_back t r m new f g rest s h none is =
     let k = moved t r m f g rest s h in
     subst (λ n. GoesOn t r m n rest) (sym is) (shuts t r m g rest k (nothing_left t r m f g rest k h none))
 
-pub step_open : (t : FlowTable) (r : List Bool) (m : List Mark) (f g : Frame) (rest : List Frame) → Sound t r m (f ∷ rest) → Moves t r m f g → mark_at r m g.point ≡ Open
+pub step_open : (t : FlowTable) (r : List Bool) (m : List Mark) (f g : Frame) (rest : List Frame)
+    → Sound t r m (f ∷ rest) → Moves t r m f g → mark_at r m g.point ≡ Open
 step_open t r m f g rest s h = (moved t r m f g rest s h).path.0.frame.is_open
 
-first_led : (t : FlowTable) (r : List Bool) (m : List Mark) (f g : Frame) (rest : List Frame) (q : ℕ) → Sound t r m (f ∷ rest) → Moves t r m f g → first g.ends.now ≡ Some q → Leads t r g.point q
+first_led : (t : FlowTable) (r : List Bool) (m : List Mark) (f g : Frame) (rest : List Frame) (q : ℕ)
+    → Sound t r m (f ∷ rest) → Moves t r m f g → first g.ends.now ≡ Some q → Leads t r g.point q
 first_led t r m f g rest q s h some =
     (moved t r m f g rest s h).path.0.frame.from q (inl (first_some t r m g.ends.now g.ways.now q some h.stops).one)
 
 pub reverse_push : {A : Type 0} (xs : List A) (x : A) → reverse (xs ++ x ∷ []) ≡ x ∷ reverse xs
 reverse_push xs x = reverse-append xs (x ∷ [])
 
-pub step_on : (t : FlowTable) (r : List Bool) (m new : List Mark) (f g : Frame) (old pushed after : List Frame) (q : ℕ) → Sound t r m (f ∷ reverse old) → Moves t r m f g → first g.ends.now ≡ Some q → mark_at r m q ≡ New → pushed ≡ old ++ g ∷ [] → Opens t q m new pushed after → GoesOn t r m new (reverse after)
+pub step_on : (t : FlowTable) (r : List Bool) (m new : List Mark) (f g : Frame) (old pushed after : List Frame) (q : ℕ)
+    → Sound t r m (f ∷ reverse old) → Moves t r m f g → first g.ends.now ≡ Some q → mark_at r m q ≡ New
+    → pushed ≡ old ++ g ∷ [] → Opens t q m new pushed after → GoesOn t r m new (reverse after)
 step_on t r m new f g old pushed after q s h some is_new push o =
     let k = moved t r m f g (reverse old) s h in
     let led = first_led t r m f g (reverse old) q s h some in
-    let all : reverse after ≡ o.frame ∷ g ∷ reverse old = ap reverse o.stack ∙ reverse_push pushed o.frame ∙ ap (λ l. o.frame ∷ l) (ap reverse push ∙ reverse_push old g) in
-    subst (λ n. GoesOn t r m n (reverse after)) (sym o.marks) (subst (GoesOn t r m (slice_set m q Open)) (sym all) (goes_on t r m (g ∷ reverse old) q o.frame k led is_new o.begins))
+    let all : reverse after ≡ o.frame ∷ g ∷ reverse old = ap reverse o.stack ∙ reverse_push pushed o.frame
+    ∙ ap (λ l. o.frame ∷ l) (ap reverse push ∙ reverse_push old g) in
+    subst (λ n. GoesOn t r m n (reverse after)) (sym o.marks)
+    (subst (GoesOn t r m (slice_set m q Open)) (sym all)
+    (goes_on t r m (g ∷ reverse old) q o.frame k led is_new o.begins))
 
-pub step_round : (t : FlowTable) (r : List Bool) (m : List Mark) (f g : Frame) (rest : List Frame) (q : ℕ) → Sound t r m (f ∷ rest) → Moves t r m f g → first g.ends.now ≡ Some q → mark_at r m q ≡ Open → Circles t r
+pub step_round : (t : FlowTable) (r : List Bool) (m : List Mark) (f g : Frame) (rest : List Frame) (q : ℕ)
+    → Sound t r m (f ∷ rest) → Moves t r m f g → first g.ends.now ≡ Some q → mark_at r m q ≡ Open → Circles t r
 step_round t r m f g rest q s h some is =
     let k = moved t r m f g rest s h in
     let led = first_led t r m f g rest q s h some in
@@ -284,7 +311,8 @@ step_round t r m f g rest q s h some is =
     (λ w. record { point = q; route = push_route t r q g.point q w led })
     (path_route t r m g rest q k.path (k.opened q is))
 
-pub step_clash : {A : Type 0} (t : FlowTable) (r : List Bool) (m : List Mark) (f g : Frame) (q : ℕ) → Moves t r m f g → first g.ends.now ≡ Some q → mark_at r m q ≡ Closed → A
+pub step_clash : {A : Type 0} (t : FlowTable) (r : List Bool) (m : List Mark) (f g : Frame) (q : ℕ) → Moves t r m f g
+    → first g.ends.now ≡ Some q → mark_at r m q ≡ Closed → A
 step_clash t r m f g q h some is = absurd (closed_clash (mark_at r m q) is (first_some t r m g.ends.now g.ways.now q some h.stops).other)
 
 -- from a point on
@@ -294,7 +322,9 @@ pub record Searching (t : FlowTable) (r : List Bool) (start : ℕ) (old now : Li
   pub start_seen : mark_at r now start ≡ New → ⊥
   pub seen : NoneNew r old now
 
-pub searching_begin : (t : FlowTable) (r : List Bool) (start : ℕ) (old new : List Mark) (before after : List Frame) → Sound t r old [] → mark_at r old start ≡ New → before ≡ [] → Opens t start old new before after → Searching t r start old new after
+pub searching_begin : (t : FlowTable) (r : List Bool) (start : ℕ) (old new : List Mark) (before after : List Frame)
+    → Sound t r old [] → mark_at r old start ≡ New → before ≡ [] → Opens t start old new before after
+    → Searching t r start old new after
 searching_begin t r start old new before after s is_new none o =
     let all : reverse after ≡ o.frame ∷ [] = ap reverse o.stack ∙ reverse_push before o.frame ∙ ap (λ (l : List Frame). o.frame ∷ reverse l) none in
     let on = goes_on t r old [] start o.frame s tt is_new o.begins in
@@ -305,7 +335,8 @@ searching_begin t r start old new before after s is_new none o =
       seen = on.seen;
     })
 
-pub searching_more : (t : FlowTable) (r : List Bool) (start : ℕ) (old now new : List Mark) (stack after : List Frame) → Searching t r start old now stack → GoesOn t r now new (reverse after) → Searching t r start old new after
+pub searching_more : (t : FlowTable) (r : List Bool) (start : ℕ) (old now new : List Mark) (stack after : List Frame)
+    → Searching t r start old now stack → GoesOn t r now new (reverse after) → Searching t r start old new after
 searching_more t r start old now new stack after h o = record {
   sound = o.sound;
   start_seen = o.seen start h.start_seen;
@@ -313,7 +344,8 @@ searching_more t r start old now new stack after h o = record {
 }
 
 -- the last point that the search goes on from
-pub popped : (t : FlowTable) (r : List Bool) (start : ℕ) (old now : List Mark) (stack rest : List Frame) (f : Frame) → stack ≡ rest ++ f ∷ [] → Searching t r start old now stack → Sound t r now (f ∷ reverse rest)
+pub popped : (t : FlowTable) (r : List Bool) (start : ℕ) (old now : List Mark) (stack rest : List Frame) (f : Frame)
+    → stack ≡ rest ++ f ∷ [] → Searching t r start old now stack → Sound t r now (f ∷ reverse rest)
 popped t r start old now stack rest f is h = subst (Sound t r now) (ap reverse is ∙ reverse_push rest f) h.sound
 
 -- nothing is taken from a list that is empty
@@ -321,14 +353,16 @@ pub popped_none : (stack rest : List Frame) (n : ℕ) → n ≡ 0 → stack ≡ 
 popped_none stack rest zero none is taken = is ∙ append-nil rest ∙ taken
 popped_none stack rest (suc n) none is taken = absurd (omega (arith, none))
 
-pub searching_end : (t : FlowTable) (r : List Bool) (start : ℕ) (old now : List Mark) (stack : List Frame) → stack ≡ [] → Searching t r start old now stack → IsOver t r start old now
+pub searching_end : (t : FlowTable) (r : List Bool) (start : ℕ) (old now : List Mark) (stack : List Frame) → stack ≡ []
+    → Searching t r start old now stack → IsOver t r start old now
 searching_end t r start old now stack none h = record {
   sound = subst (λ l. Sound t r now (reverse l)) none h.sound;
   start_seen = h.start_seen;
   seen = h.seen;
 }
 
-pub not_new : (t : FlowTable) (r : List Bool) (start : ℕ) (m : List Mark) (k : Mark) → Sound t r m [] → mark_at r m start ≡ k → (k ≡ New → ⊥) → IsOver t r start m m
+pub not_new : (t : FlowTable) (r : List Bool) (start : ℕ) (m : List Mark) (k : Mark) → Sound t r m []
+    → mark_at r m start ≡ k → (k ≡ New → ⊥) → IsOver t r start m m
 not_new t r start m k s is other = record { sound = s; start_seen = λ e. other (sym is ∙ e); seen = λ p n. n }
 
 -- all points, the last one first
@@ -356,7 +390,8 @@ fresh_sound t r m is = subst (λ n. Sound t r n []) (sym is) (record {
 pub circles_begin : (t : FlowTable) (r : List Bool) (m : List Mark) → m ≡ fresh r → CirclesGo t r 0 m
 circles_begin t r m is = record { sound = fresh_sound t r m is; seen = λ p lt all. absurd (omega arith) }
 
-pub circles_more : (t : FlowTable) (r : List Bool) (i start : ℕ) (m new : List Mark) → start + i + 1 ≡ length r → IsOver t r start m new → CirclesGo t r i m → CirclesGo t r (i + 1) new
+pub circles_more : (t : FlowTable) (r : List Bool) (i start : ℕ) (m new : List Mark) → start + i + 1 ≡ length r
+    → IsOver t r start m new → CirclesGo t r i m → CirclesGo t r (i + 1) new
 circles_more t r i start m new place o g = record { sound = o.sound; seen = seen }
   where
     seen : (p : ℕ) → p < length r → length r ≤ p + (i + 1) → mark_at r new p ≡ New → ⊥

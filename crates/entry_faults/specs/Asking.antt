@@ -1,5 +1,6 @@
 -- What is asked of the values at a point, to tell whether a statement there may fault.
-use Rattle.std.specs.Prelude.{◌≡◌, ◌≢◌, ℕ, ◌+◌, ◌≤◌, ◌^◌, Bool, true, false, nat_lt, nat_eq, not, Option, Some, None}
+use Rattle.std.specs.Prelude.{◌≡◌, ◌≢◌, ℕ, ◌+◌, ◌≤◌, ◌^◌, Bool, true, false, nat_lt, nat_eq, not}
+use Rattle.std.specs.Prelude.{Option, Some, None}
 use Rattle.exchange_model.specs.declared.exchange.Exchange.{Exchange}
 use Rattle.source_meaning.specs.Config.{receiver_of}
 use Rattle.flow_points.specs.declared.fact.Value.{Value}
@@ -8,7 +9,8 @@ use Rattle.flow_points.specs.declared.flow.Source.{Source}
 use Rattle.flow_points.specs.Facts.{Facts}
 use Rattle.entry_summary.specs.Faults.{SourceMayBe}
 use Rattle.entry_faults.specs.declared.question.Asked.{Asked}
-use Rattle.entry_faults.specs.declared.question.Asked.TheVariants.{AtLeast, TooWide, Equal, OtherAnswer, NoReceiver}
+use Rattle.entry_faults.specs.declared.question.Asked.TheVariants.{AtLeast, TooWide, Equal}
+use Rattle.entry_faults.specs.declared.question.Asked.TheVariants.{OtherAnswer, NoReceiver}
 use Rattle.entry_faults.specs.declared.question.Question.{Question}
 
 -- a number is as asked
@@ -20,7 +22,8 @@ Meets x (OtherAnswer answer) n = n ≢ answer + 1
 Meets x (NoReceiver signal) n = receiver_of x signal n ≡ None
 
 -- a value from the source may be such a number
-pub record MayMeet (x : Exchange) (P : Facts) (e p : ℕ) (source : Source) (asked : Asked) : Type 0 where
+pub record MayMeet (x : Exchange) (P : Facts) (e p : ℕ) (source : Source) (asked : Asked) : Type
+    0 where
   pub number : ℕ
   pub may : SourceMayBe P e p source number
   pub meets : Meets x asked number

@@ -1,5 +1,6 @@
 -- Points that lead back to themselves, by the ways of a table from the points that are reached.
-use Rattle.std.specs.Prelude.{◌≡◌, ℕ, Bool, true, List, [], Option, Some, None, slice_get, unwrap_or}
+use Rattle.std.specs.Prelude.{◌≡◌, ℕ, Bool, true, List, [], Option, Some, None, slice_get}
+use Rattle.std.specs.Prelude.{unwrap_or}
 use Rattle.std.specs.List.{Contains}
 use Rattle.flow_table.specs.declared.row.Row.{Row}
 use Rattle.flow_table.specs.declared.row.FlowTable.{FlowTable}

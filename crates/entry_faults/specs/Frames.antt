@@ -44,7 +44,8 @@ Stops t reached marks [] ways = (q : ℕ) → LeadTo t ways q → ⊥
 Stops t reached marks (q ∷ qs) ways = is_closed (mark_at reached marks q) ≡ false
 
 -- the same of a point that a search goes on from
-pub record Moves (t : FlowTable) (reached : List Bool) (marks : List Mark) (f g : Frame) : Type 0 where
+pub record Moves (t : FlowTable) (reached : List Bool) (marks : List Mark) (f g : Frame) : Type
+    0 where
   pub point : g.point ≡ f.point
   pub to : (q : ℕ) → Left t f q → (mark_at reached marks q ≡ Closed) ⊎ Left t g q
   pub from : (q : ℕ) → Left t g q → Left t f q

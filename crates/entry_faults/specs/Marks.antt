@@ -1,5 +1,6 @@
 -- How far a search is with each point.
-use Rattle.std.specs.Prelude.{ℕ, ◌+◌, Bool, true, false, List, [], ◌∷◌, slice_get, unwrap_or, if◌then◌else◌}
+use Rattle.std.specs.Prelude.{ℕ, ◌+◌, Bool, true, false, List, [], ◌∷◌, slice_get, unwrap_or}
+use Rattle.std.specs.Prelude.{if◌then◌else◌}
 use Rattle.entry_faults.specs.declared.mark.Mark.{Mark}
 use Rattle.entry_faults.specs.declared.mark.Mark.TheVariants.{New, Open, Closed}
 

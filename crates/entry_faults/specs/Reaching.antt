@@ -5,6 +5,8 @@ use Rattle.flow_table.specs.declared.place.PlaceAt.{PlaceAt}
 use Rattle.entry_faults.specs.Marks.{is_in}
 
 -- of each of these places whether it is reached
-pub record AreReached (P : Facts) (e : ℕ) (places : List PlaceAt) (reached : List Bool) : Type 0 where
+pub record AreReached (P : Facts) (e : ℕ) (places : List PlaceAt) (reached : List Bool) : Type
+    0 where
   pub long : length reached ≡ length places
-  pub exact : (p : ℕ) (at : PlaceAt) → slice_get places p ≡ Some at → (is_in reached p ≡ true) ↔ Reached P e at.point
+  pub exact : (p : ℕ) (at : PlaceAt) → slice_get places p ≡ Some at
+      → (is_in reached p ≡ true) ↔ Reached P e at.point

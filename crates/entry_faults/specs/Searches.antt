@@ -14,7 +14,8 @@ IsOn [] p = ⊥
 IsOn (f ∷ rest) p = (f.point ≡ p) ⊎ IsOn rest p
 
 -- a point is open, and each point to which it leads is closed or left
-pub record IsFrame (t : FlowTable) (reached : List Bool) (marks : List Mark) (f : Frame) : Type 0 where
+pub record IsFrame (t : FlowTable) (reached : List Bool) (marks : List Mark) (f : Frame) : Type
+    0 where
   pub is_open : mark_at reached marks f.point ≡ Open
   pub to : (q : ℕ) → Leads t reached f.point q → (mark_at reached marks q ≡ Closed) ⊎ Left t f q
   pub from : (q : ℕ) → Left t f q → Leads t reached f.point q
@@ -24,8 +25,10 @@ abbrev pub LedFrom : FlowTable → List Bool → List Frame → ℕ → Type 0
 LedFrom t reached [] p = Unit {0}
 LedFrom t reached (g ∷ rest) p = Leads t reached g.point p
 
--- the last point that a search goes on from is none of those before it, and the last of them leads to it
-pub record IsLast (t : FlowTable) (reached : List Bool) (marks : List Mark) (f : Frame) (rest : List Frame) : Type 0 where
+-- the last point that a search goes on from is none of those before it, and the last of them leads
+-- to it
+pub record IsLast (t : FlowTable) (reached : List Bool) (marks : List Mark) (f : Frame)
+    (rest : List Frame) : Type 0 where
   pub frame : IsFrame t reached marks f
   pub once : IsOn rest f.point → ⊥
   pub led : LedFrom t reached rest f.point
@@ -35,15 +38,19 @@ abbrev pub IsPath : FlowTable → List Bool → List Mark → List Frame → Typ
 IsPath t reached marks [] = Unit {0}
 IsPath t reached marks (f ∷ rest) = IsLast t reached marks f rest × IsPath t reached marks rest
 
--- from a closed point all is closed and none leads back to itself, and the open points are those that the search goes on from
-pub record Sound (t : FlowTable) (reached : List Bool) (marks : List Mark) (stack : List Frame) : Type 0 where
-  pub closed : (p q : ℕ) → mark_at reached marks p ≡ Closed → Leads t reached p q → mark_at reached marks q ≡ Closed
+-- from a closed point all is closed and none leads back to itself, and the open points are those
+-- that the search goes on from
+pub record Sound (t : FlowTable) (reached : List Bool) (marks : List Mark)
+    (stack : List Frame) : Type 0 where
+  pub closed : (p q : ℕ) → mark_at reached marks p ≡ Closed → Leads t reached p q
+      → mark_at reached marks q ≡ Closed
   pub none : (p : ℕ) → mark_at reached marks p ≡ Closed → Route t reached p p → ⊥
   pub path : IsPath t reached marks stack
   pub opened : (p : ℕ) → mark_at reached marks p ≡ Open → IsOn stack p
 
 -- a point is opened
-pub record Opens (t : FlowTable) (p : ℕ) (old new : List Mark) (before after : List Frame) : Type 0 where
+pub record Opens (t : FlowTable) (p : ℕ) (old new : List Mark) (before after : List Frame) : Type
+    0 where
   pub marks : new ≡ slice_set old p Open
   pub frame : Frame
   pub stack : after ≡ before ++ frame ∷ []
@@ -51,10 +58,12 @@ pub record Opens (t : FlowTable) (p : ℕ) (old new : List Mark) (before after :
 
 -- no point is new that was not
 abbrev pub NoneNew : List Bool → List Mark → List Mark → Type 0
-NoneNew reached old new = (p : ℕ) → (mark_at reached old p ≡ New → ⊥) → mark_at reached new p ≡ New → ⊥
+NoneNew reached old new =
+    (p : ℕ) → (mark_at reached old p ≡ New → ⊥) → mark_at reached new p ≡ New → ⊥
 
 -- a search goes on, with less to do
-pub record GoesOn (t : FlowTable) (reached : List Bool) (old new : List Mark) (stack : List Frame) : Type 0 where
+pub record GoesOn (t : FlowTable) (reached : List Bool) (old new : List Mark)
+    (stack : List Frame) : Type 0 where
   pub sound : Sound t reached new stack
   pub less : weight new < weight old
   pub seen : NoneNew reached old new
@@ -64,7 +73,8 @@ Stepped t reached old new stack true = Circles t reached
 Stepped t reached old new stack false = GoesOn t reached old new stack
 
 -- a search is over, and this point is seen
-pub record IsOver (t : FlowTable) (reached : List Bool) (start : ℕ) (old new : List Mark) : Type 0 where
+pub record IsOver (t : FlowTable) (reached : List Bool) (start : ℕ) (old new : List Mark) : Type
+    0 where
   pub sound : Sound t reached new []
   pub start_seen : mark_at reached new start ≡ New → ⊥
   pub seen : NoneNew reached old new

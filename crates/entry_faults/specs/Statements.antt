@@ -1,5 +1,7 @@
--- What is asked at a statement, and where one surely may fault: one line for each kind of statement that has it.
-use Rattle.std.specs.Prelude.{ℕ, Bool, true, false, List, [], ◌∷◌, ◌++◌, Option, Some, None, slice_get}
+-- What is asked at a statement, and where one surely may fault: one line for each kind of statement
+-- that has it.
+use Rattle.std.specs.Prelude.{ℕ, Bool, true, false, List, [], ◌∷◌, ◌++◌, Option, Some, None}
+use Rattle.std.specs.Prelude.{slice_get}
 use Rattle.std.specs.List.{Contains}
 use Rattle.std.specs.Option.{option_to_list}
 use Rattle.plex_limits.specs.declared.limits.TheConstants.{MOST_CALLERS}
@@ -25,7 +27,8 @@ use Rattle.flow_points.specs.Sources.{expr_source}
 use Rattle.flow_table.specs.declared.place.PlaceAt.{PlaceAt}
 use Rattle.entry_summary.specs.Faults.{holder_source, FaultsAt}
 use Rattle.entry_faults.specs.declared.fields.Pointer.{Pointer}
-use Rattle.entry_faults.specs.declared.question.Asked.TheVariants.{AtLeast, TooWide, Equal, OtherAnswer, NoReceiver}
+use Rattle.entry_faults.specs.declared.question.Asked.TheVariants.{AtLeast, TooWide, Equal}
+use Rattle.entry_faults.specs.declared.question.Asked.TheVariants.{OtherAnswer, NoReceiver}
 use Rattle.entry_faults.specs.declared.question.Question.{Question}
 use Rattle.entry_faults.specs.Asking.{MayAnswer}
 use Rattle.entry_faults.specs.Fields.{pointer_to, pointers_in}
@@ -58,7 +61,8 @@ points_at_forlopp x p = is_forlopp (file_at x p.file)
 
 abbrev pub size_question : ℕ → Option Placed → Option Question
 size_question temp None = None
-size_question temp (Some placed) = Some (record { source = Of (Temp temp); asked = AtLeast placed.file.size })
+size_question temp (Some placed) =
+    Some (record { source = Of (Temp temp); asked = AtLeast placed.file.size })
 
 abbrev pub pointer_question : Exchange → Pointer → Option Question
 pointer_question x p = size_question p.temp (file_at x p.file)
@@ -79,21 +83,25 @@ field_question None field value = None
 field_question (Some placed) field value = Some (wide_question value (field_width placed field))
 
 abbrev pub width_question : Exchange → ℕ → Layer → Option Question
-width_question x b (stmt.SetVariable variable value) = Some (wide_question value (variable_width x b variable))
-width_question x b (stmt.SetField file field temp value) = field_question (file_at x file) field value
+width_question x b (stmt.SetVariable variable value) =
+    Some (wide_question value (variable_width x b variable))
+width_question x b (stmt.SetField file field temp value) =
+    field_question (file_at x file) field value
 width_question x b _ = None
 
 -- signals
 
 abbrev pub held_question : Option Receiver → ℕ → Option Question
-held_question (Some (receiver.Held holder)) signal = Some (record { source = holder_source holder; asked = NoReceiver signal })
+held_question (Some (receiver.Held holder)) signal =
+    Some (record { source = holder_source holder; asked = NoReceiver signal })
 held_question _ signal = None
 
 abbrev pub receiver_question : Layer → Option Question
 receiver_question l = held_question (receiver_in l) (signal_in l)
 
 abbrev pub call_question : Option SignalKind → Option Question
-call_question (Some (Combined name count answer)) = Some (record { source = Of Depth; asked = Equal MOST_CALLERS })
+call_question (Some (Combined name count answer)) =
+    Some (record { source = Of Depth; asked = Equal MOST_CALLERS })
 call_question _ = None
 
 abbrev pub depth_question : Exchange → Layer → Option Question
@@ -109,7 +117,8 @@ end_question (stmt.Return answer values) = Some (record { source = Of Depth; ask
 end_question _ = None
 
 abbrev pub awaits_question : Layer → Option Question
-awaits_question (stmt.Return answer values) = Some (record { source = Of Awaits; asked = OtherAnswer answer })
+awaits_question (stmt.Return answer values) =
+    Some (record { source = Of Awaits; asked = OtherAnswer answer })
 awaits_question _ = None
 
 abbrev pub is_seize : Layer → Bool

@@ -1,14 +1,27 @@
 // What is asked at a statement.
 ghost use Rattle.std.specs.Prelude.{◌≡◌, slice_get};
 ghost use Rattle.exchange_model.specs.declared.stmt.StmtKind.{out-StmtKind};
-ghost use Rattle.source_meaning.specs.Changes.{variable_width as width_of_variable, field_width as width_of_field};
-ghost use Rattle.source_meaning.specs.Deeds.{receiver_in as receiver_layer, signal_in as signal_layer};
+ghost use Rattle.source_meaning.specs.Changes.{variable_width as width_of_variable};
+ghost use Rattle.source_meaning.specs.Changes.{field_width as width_of_field};
+ghost use Rattle.source_meaning.specs.Deeds.{receiver_in as receiver_layer};
+ghost use Rattle.source_meaning.specs.Deeds.{signal_in as signal_layer};
 ghost use Rattle.source_meaning.specs.Rests.{IsOfBlock};
 ghost use Rattle.flow_table.specs.Alone.{IsExprIn};
 ghost use Rattle.entry_summary.specs.Faults.{holder_source as source_of_holder};
 ghost use Rattle.entry_faults.specs.Fields.{pointer_to as pointer_made};
-ghost use Rattle.entry_faults.specs.Statements.{awaits_question as awaits_asked, call_question as call_asked, depth_question as depth_asked, end_question as end_asked, field_question as field_asked, file_at, held_question as held_asked};
-ghost use Rattle.entry_faults.specs.Statements.{is_forlopp as is_forlopp_file, is_seize as is_seize_layer, own_pointer as own_pointer_layer, placed_as, pointer_question as pointer_asked, receiver_question as receiver_asked, wide_question as wide_asked, width_question as width_asked};
+ghost use Rattle.entry_faults.specs.Statements.{awaits_question as awaits_asked};
+ghost use Rattle.entry_faults.specs.Statements.{call_question as call_asked};
+ghost use Rattle.entry_faults.specs.Statements.{depth_question as depth_asked};
+ghost use Rattle.entry_faults.specs.Statements.{end_question as end_asked};
+ghost use Rattle.entry_faults.specs.Statements.{field_question as field_asked, file_at};
+ghost use Rattle.entry_faults.specs.Statements.{held_question as held_asked};
+ghost use Rattle.entry_faults.specs.Statements.{is_forlopp as is_forlopp_file};
+ghost use Rattle.entry_faults.specs.Statements.{is_seize as is_seize_layer};
+ghost use Rattle.entry_faults.specs.Statements.{own_pointer as own_pointer_layer, placed_as};
+ghost use Rattle.entry_faults.specs.Statements.{pointer_question as pointer_asked};
+ghost use Rattle.entry_faults.specs.Statements.{receiver_question as receiver_asked};
+ghost use Rattle.entry_faults.specs.Statements.{wide_question as wide_asked};
+ghost use Rattle.entry_faults.specs.Statements.{width_question as width_asked};
 
 use crate::fields::Pointer;
 use crate::question::{Asked, Question};

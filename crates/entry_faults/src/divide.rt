@@ -1,8 +1,10 @@
 // Whether something in an expression may be divided by 0.
 ghost use Rattle.std.specs.Prelude.{◌≡◌};
 ghost use Rattle.exchange_model.specs.declared.expr.Factor.{out-Factor};
-ghost use Rattle.entry_summary.specs.Divides.{above_zero, divisor_in, joins_badly, term_divides as term_may_divide};
-ghost use Rattle.entry_summary.specs.Faults.{divides as divides_by, may_divide_by_zero as may_divide};
+ghost use Rattle.entry_summary.specs.Divides.{above_zero, divisor_in, joins_badly};
+ghost use Rattle.entry_summary.specs.Divides.{term_divides as term_may_divide};
+ghost use Rattle.entry_summary.specs.Faults.{divides as divides_by};
+ghost use Rattle.entry_summary.specs.Faults.{may_divide_by_zero as may_divide};
 
 use exchange_model::{Expr, Factor, FactorOp, Joined, Term};
 

@@ -12,7 +12,8 @@ use flow_table::{FlowTable, KnownFacts, PlaceAt};
 use plex_num::Memory;
 use std::alloc::Global;
 
-/// Whether a job of the entry may fault. The places are those of the exchange, and among `reached` are all of them that are reached.
+/// Whether a job of the entry may fault. The places are those of the exchange, and among `reached`
+/// are all of them that are reached.
 #[tactic(auto, using(crate::proofs::Faulting::one_faults))]
 pub fn may_fault<K: KnownFacts>(
     alloc: Global,

@@ -7,7 +7,8 @@ use crate::mark::{Mark, is_closed};
 use flow_table::{Ends, FlowTable, Way};
 use plex_num::Seq;
 
-/// A point that a search goes on from, and what it has not looked at there: these points, and the ends of these ways.
+/// A point that a search goes on from, and what it has not looked at there: these points, and the
+/// ends of these ways.
 #[derive(Clone, Copy)]
 pub struct Frame<'a> {
     pub point: usize,

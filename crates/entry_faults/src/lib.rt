@@ -1,8 +1,9 @@
 // Whether a job of an entry may fault, told from facts however they are kept.
 //
-// What goes in: an exchange with its flow table and its statements where they stand, facts that are known, and an entry. What
-// comes out: whether a statement that is reached may fault, whether more signals may be sent than a job may send, and whether a
-// statement that is reached leads back to itself. It does not know how facts are found or kept, nor what else a job does.
+// What goes in: an exchange with its flow table and its statements where they stand, facts that are
+// known, and an entry. What comes out: whether a statement that is reached may fault, whether more
+// signals may be sent than a job may send, and whether a statement that is reached leads back to
+// itself. It does not know how facts are found or kept, nor what else a job does.
 #![tactic(auto)]
 
 mod asks;

@@ -6,7 +6,8 @@ ghost use Rattle.entry_faults.specs.Marks.{is_closed as is_closed_mark, is_in, m
 use plex_num::{Memory, Seq};
 use std::alloc::Global;
 
-/// How far a search is with a point: it has not come there, it goes on from there, or it has been everywhere from there on.
+/// How far a search is with a point: it has not come there, it goes on from there, or it has been
+/// everywhere from there on.
 #[derive(Clone, Copy)]
 pub enum Mark {
     New,

@@ -3,7 +3,9 @@ ghost use Rattle.std.specs.Prelude.{◌≡◌, ◌↔◌, ◌+◌, ◌^◌, nat_
 ghost use Rattle.std.specs.List.{list_any};
 ghost use Rattle.source_meaning.specs.Config.{receiver_of as receiver_named};
 ghost use Rattle.flow_points.specs.Places.{receives as receives_signal};
-ghost use Rattle.entry_faults.specs.Asking.{MayAnswer, lacks_receiver as lacks, number_meets as number_is, some_meets as some_is, value_meets as value_is};
+ghost use Rattle.entry_faults.specs.Asking.{MayAnswer, lacks_receiver as lacks};
+ghost use Rattle.entry_faults.specs.Asking.{number_meets as number_is, some_meets as some_is};
+ghost use Rattle.entry_faults.specs.Asking.{value_meets as value_is};
 
 use exchange_model::Exchange;
 use flow_points::{Source, Value};
@@ -11,8 +13,9 @@ use flow_table::{KnownFacts, values_from};
 use plex_num::{Memory, fits};
 use std::alloc::Global;
 
-/// What a number is asked to be: this one or a greater one, one that does not fit so many bits, this one, any but 1 plus the
-/// number of an answer, or no reference to a block that receives a signal.
+/// What a number is asked to be: this one or a greater one, one that does not fit so many bits,
+/// this one, any but 1 plus the number of an answer, or no reference to a block that receives a
+/// signal.
 #[derive(Clone, Copy)]
 pub enum Asked {
     AtLeast(u32),
@@ -119,8 +122,8 @@ fn any_meets(exchange: &Exchange, asked: Asked, values: &[Value]) -> bool
         .any(|value| value_meets(exchange, asked, *value))
 }
 
-/// Whether a value from the source of a question, if there is one, may be a number as it asks for, before a point in a job of
-/// the entry.
+/// Whether a value from the source of a question, if there is one, may be a number as it asks for,
+/// before a point in a job of the entry.
 pub fn may_answer<K: KnownFacts>(
     alloc: Global,
     exchange: &Exchange,

@@ -11,7 +11,8 @@ use flow_table::{FlowTable, KnownFacts, PlaceAt};
 use plex_num::{Memory, Seq};
 use std::alloc::Global;
 
-/// Whether a statement that a job of the entry may reach leads back to itself, over flows from statements that it may reach.
+/// Whether a statement that a job of the entry may reach leads back to itself, over flows from
+/// statements that it may reach.
 pub fn goes_round<K: KnownFacts>(
     alloc: Global,
     exchange: &Exchange,

@@ -1,5 +1,6 @@
-// A search for a point that leads back to itself: it goes on from a point to the first end that it has not seen, and back when
-// all ends of a point are closed. An end that it still goes on from leads back to itself.
+// A search for a point that leads back to itself: it goes on from a point to the first end that it
+// has not seen, and back when all ends of a point are closed. An end that it still goes on from
+// leads back to itself.
 ghost use Rattle.std.specs.Prelude.{◌≡◌, ◌∷◌, ◌↔◌, ◌++◌, [], true, length, reverse, IfOk};
 ghost use Rattle.entry_faults.specs.Circles.{Circles};
 ghost use Rattle.entry_faults.specs.Searches.{Found, Opens, Sound, Stepped};
@@ -12,8 +13,8 @@ use flow_table::FlowTable;
 use plex_num::{Memory, Seq};
 use std::alloc::Global;
 
-/// Whether a point leads back to itself, on ways from points that are reached. The last points come first, since most statements
-/// lead on: then few points are open at once.
+/// Whether a point leads back to itself, on ways from points that are reached. The last points come
+/// first, since most statements lead on: then few points are open at once.
 pub fn circles(alloc: Global, table: &FlowTable, reached: &Seq<bool>) -> Result<bool, Memory>
     ensures { IfOk result (λ round. (round ≡ true) ↔ Circles table.now reached.now) }
 {
@@ -28,7 +29,8 @@ pub fn circles(alloc: Global, table: &FlowTable, reached: &Seq<bool>) -> Result<
     Ok(false)
 }
 
-/// Looks at all that a point leads to and that is new, and tells whether a point there leads back to itself.
+/// Looks at all that a point leads to and that is new, and tells whether a point there leads back
+/// to itself.
 fn search_from(
     alloc: Global,
     table: &FlowTable,

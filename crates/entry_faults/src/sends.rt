@@ -3,13 +3,15 @@ ghost use Rattle.std.specs.Prelude.{◌≡◌, ◌↔◌, ◌+◌, ◌<◌, ◌^
 ghost use Rattle.exchange_model.specs.declared.stmt.StmtKind.{out-StmtKind};
 ghost use Rattle.flow_table.specs.Texts.{AreReachedAmong, seen};
 ghost use Rattle.entry_summary.specs.Faults.{TooManySends};
-ghost use Rattle.entry_faults.specs.Sends.{PostsHere, counts, joins_outbox as joins, posts as posts_layer};
+ghost use Rattle.entry_faults.specs.Sends.{PostsHere, counts, joins_outbox as joins};
+ghost use Rattle.entry_faults.specs.Sends.{posts as posts_layer};
 
 use exchange_model::{Exchange, SignalKind, StmtKind};
 use flow_table::{KnownFacts, PlaceAt};
 use plex_limits::MOST_SENT;
 
-/// Whether more statements are reached that send a signal to a buffer or out of the exchange than a job may make such sends.
+/// Whether more statements are reached that send a signal to a buffer or out of the exchange than a
+/// job may make such sends.
 pub fn too_many_sends<K: KnownFacts>(
     exchange: &Exchange,
     places: &[PlaceAt<'_>],

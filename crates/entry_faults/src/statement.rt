@@ -5,11 +5,14 @@ ghost use Rattle.std.specs.Option.{option_to_list};
 ghost use Rattle.exchange_model.specs.declared.stmt.StmtKind.{out-StmtKind};
 ghost use Rattle.source_meaning.specs.Rests.{IsOfBlock};
 ghost use Rattle.flow_table.specs.Texts.{AreReachedAmong, seen};
-ghost use Rattle.entry_summary.specs.Faults.{FaultsAt, SomeFaults, may_divide_by_zero as may_divide};
+ghost use Rattle.entry_summary.specs.Faults.{FaultsAt, SomeFaults};
+ghost use Rattle.entry_summary.specs.Faults.{may_divide_by_zero as may_divide};
 ghost use Rattle.entry_faults.specs.declared.fields.Pointer.{Pointer as PointerType};
 ghost use Rattle.entry_faults.specs.Exprs.{expr_seen};
 ghost use Rattle.entry_faults.specs.Fields.{pointers_in};
-ghost use Rattle.entry_faults.specs.Statements.{AnyMisses, FaultsHere, own_pointer as own_pointer_layer, points_at_forlopp as points_so};
+ghost use Rattle.entry_faults.specs.Statements.{AnyMisses, FaultsHere};
+ghost use Rattle.entry_faults.specs.Statements.{own_pointer as own_pointer_layer};
+ghost use Rattle.entry_faults.specs.Statements.{points_at_forlopp as points_so};
 
 use crate::asks::{
     awaits_question, depth_question, end_question, is_forlopp, is_seize, own_pointer,
@@ -99,7 +102,8 @@ fn may_fault_at<K: KnownFacts>(
     Ok(seizes | divides | forlopp | misses | lost | wide | waits | other | deep)
 }
 
-/// The pointers of a statement, of which these are the expressions: those of the fields that it reads, and its own.
+/// The pointers of a statement, of which these are the expressions: those of the fields that it
+/// reads, and its own.
 fn pointers_of(alloc: Global, kind: &StmtKind, exprs: &[ExprAt<'_>]) -> Result<Seq<Pointer>, Memory>
     ensures { IfOk result (λ pointers. pointers ≡ pointers_in (map expr_seen exprs.now)
         ++ option_to_list (own_pointer_layer (out-StmtKind kind.now))) }

@@ -12,5 +12,6 @@ same_summary s t level accesses levels fault = λ i. record {
   levels = levels i;
   fault = fault i;
   rising = is_prop→PathP (λ j. IsStrictlySortedBy access_order (accesses j)) (λ j. IsStrictlySortedBy-prop access_order (accesses j)) s.rising t.rising i;
-  levels_rising = is_prop→PathP (λ j. IsStrictlySortedBy level_order (levels j)) (λ j. IsStrictlySortedBy-prop level_order (levels j)) s.levels_rising t.levels_rising i;
+  levels_rising = is_prop→PathP (λ j. IsStrictlySortedBy level_order (levels j))
+      (λ j. IsStrictlySortedBy-prop level_order (levels j)) s.levels_rising t.levels_rising i;
 }

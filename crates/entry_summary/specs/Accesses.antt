@@ -15,7 +15,8 @@ use Rattle.flow_points.specs.declared.fact.Slot.TheVariants.{Temp}
 use Rattle.flow_points.specs.declared.fact.Value.{Value}
 use Rattle.flow_points.specs.declared.fact.Value.TheVariants.{Any}
 use Rattle.entry_summary.specs.declared.summary.Access.{Access}
-use Rattle.entry_summary.specs.declared.summary.Access.TheVariants.{Variable, Field, Own, Seizes, Frees}
+use Rattle.entry_summary.specs.declared.summary.Access.TheVariants.{Variable, Field, Own, Seizes}
+use Rattle.entry_summary.specs.declared.summary.Access.TheVariants.{Frees}
 use Rattle.flow_points.specs.Places.{Place, StandsAt}
 use Rattle.flow_points.specs.Facts.{Facts, Known, Reached}
 use Rattle.entry_summary.specs.Numbers.{variable_number, field_number}
@@ -44,21 +45,31 @@ pub record NamesField (l : Layer) (file field pointer : ℕ) : Type 0 where
 
 -- an access of the statement of a block, at its point, in a job of the entry
 pub data Accesses (x : Exchange) (P : Facts) (e b p : ℕ) : Layer → Access → Type 0 where
-  reads : (l : Layer) (variable : ℕ) → NamesVariable l variable → Accesses x P e b p l (Variable false (variable_number x b variable))
-  reads_holder : (l : Layer) (variable : ℕ) → receiver_in l ≡ Some (receiver.Held (holder.Variable variable))
+  reads : (l : Layer) (variable : ℕ) → NamesVariable l variable
       → Accesses x P e b p l (Variable false (variable_number x b variable))
-  writes : (variable : ℕ) (value : Expr) → Accesses x P e b p (stmt.SetVariable variable value) (Variable true (variable_number x b variable))
-  reads_field : (l : Layer) (file field pointer : ℕ) (v : Value) → NamesField l file field pointer → IsPlain x file → Known P e p (Temp pointer) v
+  reads_holder : (l : Layer) (variable : ℕ) → receiver_in l
+      ≡ Some (receiver.Held (holder.Variable variable))
+      → Accesses x P e b p l (Variable false (variable_number x b variable))
+  writes : (variable : ℕ) (value : Expr) → Accesses x P e b p (stmt.SetVariable variable value)
+      (Variable true (variable_number x b variable))
+  reads_field : (l : Layer) (file field pointer : ℕ) (v : Value) → NamesField l file field pointer
+      → IsPlain x file → Known P e p (Temp pointer) v
       → Accesses x P e b p l (Field false (field_number x file field) v)
-  writes_field : (file field pointer : ℕ) (value : Expr) (v : Value) → IsPlain x file → Known P e p (Temp pointer) v
-      → Accesses x P e b p (stmt.SetField file field pointer value) (Field true (field_number x file field) v)
+  writes_field : (file field pointer : ℕ) (value : Expr) (v : Value) → IsPlain x file
+      → Known P e p (Temp pointer) v
+      → Accesses x P e b p (stmt.SetField file field pointer value)
+      (Field true (field_number x file field) v)
   searches : (temp file field : ℕ) (rel : Rel) (value : Expr) (label : ℕ)
-      → Accesses x P e b p (stmt.ForFirst temp file field rel value label) (Field false (field_number x file field) Any)
-  reads_own : (l : Layer) (file field pointer : ℕ) → NamesField l file field pointer → IsForlopp x file
+      → Accesses x P e b p (stmt.ForFirst temp file field rel value label)
+      (Field false (field_number x file field) Any)
+  reads_own : (l : Layer) (file field pointer : ℕ) → NamesField l file field pointer
+      → IsForlopp x file
       → Accesses x P e b p l (Own false (field_number x file field))
   writes_own : (file field pointer : ℕ) (value : Expr) → IsForlopp x file
-      → Accesses x P e b p (stmt.SetField file field pointer value) (Own true (field_number x file field))
-  opens_own : (temp file field : ℕ) (placed : Placed) → IsFileAt x file placed → field < length placed.file.fields
+      → Accesses x P e b p (stmt.SetField file field pointer value)
+      (Own true (field_number x file field))
+  opens_own : (temp file field : ℕ) (placed : Placed) → IsFileAt x file placed
+      → field < length placed.file.fields
       → Accesses x P e b p (stmt.Free temp file) (Own true (field_number x file field))
   seizes : (temp file label : ℕ) → Accesses x P e b p (stmt.Seize temp file label) (Seizes file)
   frees : (temp file : ℕ) → Accesses x P e b p (stmt.Free temp file) (Frees file)

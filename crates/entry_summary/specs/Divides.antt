@@ -8,10 +8,12 @@ use Rattle.exchange_model.specs.declared.expr.Factor.TheOpen.{Factor-F, Number}
 use Rattle.entry_summary.specs.Faults.{Divisor, divisor_of, divides, joined_divides}
 
 unfoldable pub term_divides : Term → Bool
-term_divides = fold-Term Divisor Bool Bool Bool divisor_of (λ e. list_any (λ t. t) e.terms) joined_divides (λ t. list_any (λ j. j) t.factors)
+term_divides = fold-Term Divisor Bool Bool Bool divisor_of (λ e. list_any (λ t. t) e.terms)
+    joined_divides (λ t. list_any (λ j. j) t.factors)
 
 unfoldable pub divisor_in : Factor → Divisor
-divisor_in = fold-Factor Divisor Bool Bool Bool divisor_of (λ e. list_any (λ t. t) e.terms) joined_divides (λ t. list_any (λ j. j) t.factors)
+divisor_in = fold-Factor Divisor Bool Bool Bool divisor_of (λ e. list_any (λ t. t) e.terms)
+    joined_divides (λ t. list_any (λ j. j) t.factors)
 
 -- a factor is a number above 0
 abbrev pub above_zero : {E F J T : Type 0} → Factor-F F E J T → Bool
@@ -20,4 +22,5 @@ above_zero _ = false
 
 -- a factor with what joins it
 abbrev pub joins_badly : Joined → Bool
-joins_badly j = (divisor_in j.factor).inside || (divides j.by && not (above_zero (out-Factor j.factor)))
+joins_badly j = (divisor_in j.factor).inside || (divides j.by
+    && not (above_zero (out-Factor j.factor)))

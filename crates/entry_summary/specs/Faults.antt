@@ -1,6 +1,8 @@
--- Where a job may fault. A value may be a number: a number that it is, and any number where it is one that the job started with
--- or is not known. One line for each fault of a statement; two more look at all statements that are reached.
-use Rattle.std.specs.Prelude.{◌≡◌, ◌≢◌, ◌⊎◌, ℕ, ◌+◌, ◌<◌, ◌≤◌, ◌^◌, Bool, false, true, nat_lt, nat_eq, not, ◌&&◌, ◌||◌, List, length, Option, Some, None, slice_get}
+-- Where a job may fault. A value may be a number: a number that it is, and any number where it is
+-- one that the job started with or is not known. One line for each fault of a statement; two more
+-- look at all statements that are reached.
+use Rattle.std.specs.Prelude.{◌≡◌, ◌≢◌, ◌⊎◌, ℕ, ◌+◌, ◌<◌, ◌≤◌, ◌^◌, Bool, false, true, nat_lt}
+use Rattle.std.specs.Prelude.{nat_eq, not, ◌&&◌, ◌||◌, List, length, Option, Some, None, slice_get}
 use Rattle.std.specs.List.{Contains, IsDistinct, list_any}
 use Rattle.plex_limits.specs.declared.limits.TheConstants.{MOST_CALLERS, MOST_SENT}
 use Rattle.exchange_model.specs.declared.exchange.Exchange.{Exchange}
@@ -66,14 +68,17 @@ joined_divides j = j.factor.inside || (divides j.by && not j.factor.above_zero)
 
 -- some right factor of `/` or MOD in the expression is no number above 0
 unfoldable pub may_divide_by_zero : Expr → Bool
-may_divide_by_zero = fold-Expr Divisor Bool Bool Bool divisor_of (λ e. list_any (λ t. t) e.terms) joined_divides (λ t. list_any (λ j. j) t.factors)
+may_divide_by_zero = fold-Expr Divisor Bool Bool Bool divisor_of (λ e. list_any (λ t. t) e.terms)
+    joined_divides (λ t. list_any (λ j. j) t.factors)
 
 -- pointers and references
 
 -- a pointer of the statement to a record of a file: of a field that is read or written, or of FREE
 pub data PointsAt : Layer → ℕ → ℕ → Type 0 where
-  reads : (l : Layer) (file field pointer : ℕ) → NamesField l file field pointer → PointsAt l file pointer
-  writes : (file field pointer : ℕ) (value : Expr) → PointsAt (stmt.SetField file field pointer value) file pointer
+  reads : (l : Layer) (file field pointer : ℕ) → NamesField l file field pointer
+      → PointsAt l file pointer
+  writes : (file field pointer : ℕ) (value : Expr)
+      → PointsAt (stmt.SetField file field pointer value) file pointer
   frees : (temp file : ℕ) → PointsAt (stmt.Free temp file) file temp
 
 abbrev pub holder_source : Holder → Source
@@ -84,7 +89,8 @@ holder_source (holder.Variable v) = Is Any
 
 -- the statement gives a variable or a field of the width the value of an expression
 pub data PutsIn (x : Exchange) (b : ℕ) : Layer → Expr → ℕ → Type 0 where
-  in_variable : (variable : ℕ) (value : Expr) → PutsIn x b (stmt.SetVariable variable value) value (variable_width x b variable)
+  in_variable : (variable : ℕ) (value : Expr) → PutsIn x b (stmt.SetVariable variable value) value
+      (variable_width x b variable)
   in_field : (file field pointer : ℕ) (value : Expr) (placed : Placed) → IsFileAt x file placed
       → PutsIn x b (stmt.SetField file field pointer value) value (field_width placed field)
 
@@ -92,21 +98,31 @@ pub data PutsIn (x : Exchange) (b : ℕ) : Layer → Expr → ℕ → Type 0 whe
 
 -- the statement of a block, at its point, may fault in a job of the entry
 pub data FaultsAt (x : Exchange) (P : Facts) (e b p : ℕ) : Layer → Type 0 where
-  no_record : (l : Layer) (file pointer n : ℕ) (placed : Placed) → PointsAt l file pointer → IsFileAt x file placed
+  no_record : (l : Layer) (file pointer n : ℕ) (placed : Placed) → PointsAt l file pointer
+      → IsFileAt x file placed
       → SourceMayBe P e p (Of (Temp pointer)) n → placed.file.size ≤ n → FaultsAt x P e b p l
-  no_receiver : (l : Layer) (h : Holder) (n : ℕ) → receiver_in l ≡ Some (receiver.Held h) → SourceMayBe P e p (holder_source h) n
+  no_receiver : (l : Layer) (h : Holder) (n : ℕ) → receiver_in l ≡ Some (receiver.Held h)
+      → SourceMayBe P e p (holder_source h) n
       → receiver_of x (signal_in l) n ≡ None → FaultsAt x P e b p l
-  too_wide : (l : Layer) (value : Expr) (width n : ℕ) → PutsIn x b l value width → SourceMayBe P e p (expr_source value) n → 2 ^ width ≤ n
+  too_wide : (l : Layer) (value : Expr) (width n : ℕ) → PutsIn x b l value width
+      → SourceMayBe P e p (expr_source value) n → 2 ^ width ≤ n
       → FaultsAt x P e b p l
-  divides_by_zero : (l : Layer) (value : Expr) → Contains (own_exprs l) value → may_divide_by_zero value ≡ true → FaultsAt x P e b p l
-  not_own : (l : Layer) (file pointer : ℕ) → PointsAt l file pointer → IsForlopp x file → FaultsAt x P e b p l
+  divides_by_zero : (l : Layer) (value : Expr) → Contains (own_exprs l) value
+      → may_divide_by_zero value ≡ true → FaultsAt x P e b p l
+  not_own : (l : Layer) (file pointer : ℕ) → PointsAt l file pointer → IsForlopp x file
+      → FaultsAt x P e b p l
   seizes : (temp file label : ℕ) → FaultsAt x P e b p (stmt.Seize temp file label)
-  has_caller : (l : Layer) (n : ℕ) → IsEnd l → SourceMayBe P e p (Of Depth) n → 0 < n → FaultsAt x P e b p l
-  no_caller : (answer : ℕ) (values : List Expr) → SourceMayBe P e p (Of Depth) 0 → FaultsAt x P e b p (stmt.Return answer values)
-  other_caller : (answer : ℕ) (values : List Expr) (n : ℕ) → SourceMayBe P e p (Of Awaits) n → n ≢ answer + 1
+  has_caller : (l : Layer) (n : ℕ) → IsEnd l → SourceMayBe P e p (Of Depth) n → 0 < n
+      → FaultsAt x P e b p l
+  no_caller : (answer : ℕ) (values : List Expr) → SourceMayBe P e p (Of Depth) 0
       → FaultsAt x P e b p (stmt.Return answer values)
-  too_deep : (signal : ℕ) (to : Option Receiver) (values : List Expr) (fresh : Bool) (name : List ℕ) (count answer : ℕ)
-      → slice_get x.signals signal ≡ Some (Combined name count answer) → SourceMayBe P e p (Of Depth) MOST_CALLERS
+  other_caller : (answer : ℕ) (values : List Expr) (n : ℕ) → SourceMayBe P e p (Of Awaits) n
+      → n ≢ answer + 1
+      → FaultsAt x P e b p (stmt.Return answer values)
+  too_deep : (signal : ℕ) (to : Option Receiver) (values : List Expr) (fresh : Bool) (name : List ℕ)
+      (count answer : ℕ)
+      → slice_get x.signals signal ≡ Some (Combined name count answer)
+      → SourceMayBe P e p (Of Depth) MOST_CALLERS
       → FaultsAt x P e b p (stmt.Send signal to values fresh)
 
 -- a reached statement may fault

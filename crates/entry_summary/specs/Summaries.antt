@@ -18,8 +18,10 @@ use Rattle.entry_summary.specs.Faults.{MayFault}
 
 -- a statement sends to a buffer
 pub data SendsTo (x : Exchange) : Layer → Level → Type 0 where
-  sends : (signal : ℕ) (to : Option Receiver) (values : List Expr) (fresh : Bool) (name : List ℕ) (level : Level) (count : ℕ)
-      → slice_get x.signals signal ≡ Some (Buffered name level count) → SendsTo x (stmt.Send signal to values fresh) level
+  sends : (signal : ℕ) (to : Option Receiver) (values : List Expr) (fresh : Bool) (name : List ℕ)
+      (level : Level) (count : ℕ)
+      → slice_get x.signals signal ≡ Some (Buffered name level count)
+      → SendsTo x (stmt.Send signal to values fresh) level
 
 -- a job of the entry may reach a statement that sends to the buffer of the level
 pub record MaySendTo (x : Exchange) (P : Facts) (e : ℕ) (level : Level) : Type 0 where
@@ -29,7 +31,8 @@ pub record MaySendTo (x : Exchange) (P : Facts) (e : ℕ) (level : Level) : Type
   pub reached : Reached P e point
   pub sends : SendsTo x at.layer level
 
--- what these facts say of the jobs of an entry; a summary keeps its accesses and its levels in order
+-- what these facts say of the jobs of an entry; a summary keeps its accesses and its levels in
+-- order
 pub record IsSummary (x : Exchange) (P : Facts) (e : ℕ) (s : Summary) : Type 0 where
   pub level : s.level ≡ level_of x e
   pub accesses : (a : Access) → Contains s.accesses a ↔ IsAccess x P e a

@@ -4,9 +4,10 @@ ghost use Rattle.entry_summary.specs.Orders.{access_order, level_order};
 use flow_points::Value;
 use plex_num::{Level, Seq};
 
-/// What a job may do to stored data. Variables, fields and files are numbered through the exchange, in the order of the
-/// blocks. In order: all reads of variables, all writes of them, reads and writes of fields of plain files, reads and writes
-/// of fields of own records, seizing, freeing; each by its numbers.
+/// What a job may do to stored data. Variables, fields and files are numbered through the exchange,
+/// in the order of the blocks. In order: all reads of variables, all writes of them, reads and
+/// writes of fields of plain files, reads and writes of fields of own records, seizing, freeing;
+/// each by its numbers.
 #[derive(Clone, Copy, PartialEq, Eq, PartialOrd, Ord)]
 pub enum Access {
     Variable {
@@ -32,8 +33,9 @@ pub enum Access {
     },
 }
 
-/// What the jobs of an entry may do: the level of the entry, their accesses in order, the levels to which they send in order,
-/// and whether one may fault. No access and no level stands twice, and none is made otherwise.
+/// What the jobs of an entry may do: the level of the entry, their accesses in order, the levels to
+/// which they send in order, and whether one may fault. No access and no level stands twice, and
+/// none is made otherwise.
 pub struct Summary {
     pub level: Level,
     pub accesses: Seq<Access>,

@@ -1,11 +1,16 @@
--- What is said of all layers of a statement, opened and built: one layer, and the same of each of its parts. This is the one place
--- that goes over the kinds for it.
+-- What is said of all layers of a statement, opened and built: one layer, and the same of each of
+-- its parts. This is the one place that goes over the kinds for it.
 use Rattle.std.specs.Prelude.{◌≡◌, List, [], ◌∷◌, map, refl}
 use Rattle.std.proofs.Common.{subst, ap}
 use Rattle.std.specs.List.{AllByRecursion}
-use Rattle.exchange_model.specs.declared.stmt.Stmt.{Stmt, Stmt-F, out-Stmt, roll-out-Stmt, every-Stmt, every_held-Stmt, every_made-Stmt}
-use Rattle.exchange_model.specs.declared.stmt.When.{When, When-F, out-When, roll-out-When, every-When, every_held-When, every_made-When}
-use Rattle.exchange_model.specs.declared.stmt.StmtKind.{StmtKind, StmtKind-F, out-StmtKind, roll-out-StmtKind, every-StmtKind, every_here-StmtKind, every_held-StmtKind, every_made-StmtKind, map-StmtKind}
+use Rattle.exchange_model.specs.declared.stmt.Stmt.{Stmt, Stmt-F, out-Stmt, roll-out-Stmt}
+use Rattle.exchange_model.specs.declared.stmt.Stmt.{every-Stmt, every_held-Stmt, every_made-Stmt}
+use Rattle.exchange_model.specs.declared.stmt.When.{When, When-F, out-When, roll-out-When}
+use Rattle.exchange_model.specs.declared.stmt.When.{every-When, every_held-When, every_made-When}
+use Rattle.exchange_model.specs.declared.stmt.StmtKind.{StmtKind, StmtKind-F, out-StmtKind}
+use Rattle.exchange_model.specs.declared.stmt.StmtKind.{roll-out-StmtKind, every-StmtKind}
+use Rattle.exchange_model.specs.declared.stmt.StmtKind.{every_here-StmtKind, every_held-StmtKind}
+use Rattle.exchange_model.specs.declared.stmt.StmtKind.{every_made-StmtKind, map-StmtKind}
 use Rattle.exchange_model.specs.declared.stmt.StmtKind.TheOpen as layer
 use Rattle.exchange_model.specs.Everywhere.{Layer, Everywhere, AllIn, PartsKeep}
 
@@ -39,7 +44,9 @@ whens_in P (one ∷ rest) =
     let held = every_held-When P (λ _. Unit {0}) (λ _. Unit {0}) one.0 one.1 in
     (subst (λ (l : When-F StmtKind Stmt When). AllIn P l.body) held.1 (all_in P held.0.body), whens_in P rest)
 
-parts_in : (P : Layer → Type 0) (l : StmtKind-F (KeptKind P) (Kept P) (KeptWhen P)) → PartsKeep P (map-StmtKind (KeptKind P) (Kept P) (KeptWhen P) StmtKind Stmt When (λ one. one.0) (λ one. one.0) (λ one. one.0) l)
+parts_in : (P : Layer → Type 0) (l : StmtKind-F (KeptKind P) (Kept P) (KeptWhen P))
+    → PartsKeep P (map-StmtKind (KeptKind P) (Kept P) (KeptWhen P) StmtKind Stmt When (λ one. one.0) (λ one. one.0)
+    (λ one. one.0) l)
 parts_in P (layer.If cond yes_part no_part) = (all_in P yes_part, all_in P no_part)
 parts_in P (layer.Case value whens otherwise) = (whens_in P whens, all_in P otherwise)
 parts_in P (layer.On temp from upto body) = all_in P body
@@ -63,7 +70,8 @@ beside P (x ∷ rest) all = let more = beside P rest all.1 in record { pairs = (
 stmt_built : (P : Layer → Type 0) (one : Stmt) → Everywhere P one.kind → every-Stmt P (λ _. Unit {0}) (λ _. Unit {0}) one
 unfolding Everywhere
 stmt_built P one h =
-    let built = every_made-Stmt P (λ _. Unit {0}) (λ _. Unit {0}) (out-Stmt one) (record { point = one.point; line = one.line; kind = (one.kind, h) }) refl tt in
+    let built = every_made-Stmt P (λ _. Unit {0}) (λ _. Unit {0}) (out-Stmt one)
+    (record { point = one.point; line = one.line; kind = (one.kind, h) }) refl tt in
     subst (every-Stmt P (λ _. Unit {0}) (λ _. Unit {0})) (roll-out-Stmt one) built
 
 stmts_built : (P : Layer → Type 0) (list : List Stmt) → AllIn P list → AllByRecursion (every-Stmt P (λ _. Unit {0}) (λ _. Unit {0})) list
@@ -73,10 +81,13 @@ stmts_built P (one ∷ rest) all = (stmt_built P one all.0, stmts_built P rest a
 when_built : (P : Layer → Type 0) (w : When) → AllIn P (out-When w).body → every-When P (λ _. Unit {0}) (λ _. Unit {0}) w
 when_built P w all =
     let body = beside (every-Stmt P (λ _. Unit {0}) (λ _. Unit {0})) (out-When w).body (stmts_built P (out-When w).body all) in
-    let built = every_made-When P (λ _. Unit {0}) (λ _. Unit {0}) (out-When w) (record { number = (out-When w).number; body = body.pairs }) (λ i. record { number = (out-When w).number; body = body.same i }) tt in
+    let built = every_made-When P (λ _. Unit {0}) (λ _. Unit {0}) (out-When w)
+    (record { number = (out-When w).number; body = body.pairs })
+    (λ i. record { number = (out-When w).number; body = body.same i }) tt in
     subst (every-When P (λ _. Unit {0}) (λ _. Unit {0})) (roll-out-When w) built
 
-whens_built : (P : Layer → Type 0) (list : List When) → AllByRecursion (λ w. AllIn P (out-When w).body) list → AllByRecursion (every-When P (λ _. Unit {0}) (λ _. Unit {0})) list
+whens_built : (P : Layer → Type 0) (list : List When) → AllByRecursion (λ w. AllIn P (out-When w).body) list
+    → AllByRecursion (every-When P (λ _. Unit {0}) (λ _. Unit {0})) list
 whens_built P [] all = tt
 whens_built P (w ∷ rest) all = (when_built P w all.0, whens_built P rest all.1)
 

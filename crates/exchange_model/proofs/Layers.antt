@@ -1,19 +1,27 @@
 -- What is said of all layers, opened: one layer, and the same of each of its parts.
 --
--- Of a statement or an expression the types have one layer, whose parts are statements or expressions again. A fact of all
--- layers is a fact of the outer one and of each part; a number that is made layer by layer is made of those of the parts.
+-- Of a statement or an expression the types have one layer, whose parts are statements or
+-- expressions again. A fact of all layers is a fact of the outer one and of each part; a number
+-- that is made layer by layer is made of those of the parts.
 use Rattle.std.specs.Prelude.{List, [], ◌∷◌, map}
 use Rattle.std.proofs.Common.{◌≡◌, sym, ap, ◌∙◌, subst}
 use Rattle.std.specs.List.{AllByRecursion}
-use Rattle.exchange_model.specs.declared.expr.Expr.{Expr, Expr-F, out-Expr, every-Expr, every_here-Expr, every_held-Expr}
-use Rattle.exchange_model.specs.declared.expr.Term.{Term, Term-F, out-Term, every-Term, every_here-Term, every_held-Term}
-use Rattle.exchange_model.specs.declared.expr.Joined.{Joined, Joined-F, every-Joined, every_held-Joined}
-use Rattle.exchange_model.specs.declared.expr.Factor.{Factor, Factor-F, out-Factor, every-Factor, every_here-Factor, every_held-Factor, map-Factor}
+use Rattle.exchange_model.specs.declared.expr.Expr.{Expr, Expr-F, out-Expr, every-Expr}
+use Rattle.exchange_model.specs.declared.expr.Expr.{every_here-Expr, every_held-Expr}
+use Rattle.exchange_model.specs.declared.expr.Term.{Term, Term-F, out-Term, every-Term}
+use Rattle.exchange_model.specs.declared.expr.Term.{every_here-Term, every_held-Term}
+use Rattle.exchange_model.specs.declared.expr.Joined.{Joined, Joined-F, every-Joined}
+use Rattle.exchange_model.specs.declared.expr.Joined.{every_held-Joined}
+use Rattle.exchange_model.specs.declared.expr.Factor.{Factor, Factor-F, out-Factor, every-Factor}
+use Rattle.exchange_model.specs.declared.expr.Factor.{every_here-Factor, every_held-Factor}
+use Rattle.exchange_model.specs.declared.expr.Factor.{map-Factor}
 use Rattle.exchange_model.specs.declared.expr.Factor.TheOpen.{Bracket}
 use Rattle.exchange_model.specs.declared.stmt.Stmt.{Stmt}
 use Rattle.exchange_model.specs.declared.stmt.When.{When}
-use Rattle.exchange_model.specs.declared.stmt.StmtKind.{StmtKind, StmtKind-F, out-StmtKind, roll-StmtKind, roll-out-StmtKind}
-use Rattle.exchange_model.specs.Fits.{Scope, LayerFits, StmtFits, FactorFits, TermsStand, FactorsStand, ExprFits}
+use Rattle.exchange_model.specs.declared.stmt.StmtKind.{StmtKind, StmtKind-F, out-StmtKind}
+use Rattle.exchange_model.specs.declared.stmt.StmtKind.{roll-StmtKind, roll-out-StmtKind}
+use Rattle.exchange_model.specs.Fits.{Scope, LayerFits, StmtFits, FactorFits, TermsStand}
+use Rattle.exchange_model.specs.Fits.{FactorsStand, ExprFits}
 use Rattle.exchange_model.specs.PartFits.{PartsFit, TermFits, JoinedFits, FactorOwnFits, InsideFits}
 use Rattle.exchange_model.proofs.Everywhere.{everywhere-own, everywhere-parts}
 
@@ -73,7 +81,9 @@ joined_fits-out s j h =
     let held = every_held-Joined (FactorFits s) (λ e. TermsStand e.terms) (λ j. Unit {0}) (λ t. FactorsStand t.factors) j h in
     subst (λ (l : Joined-F Factor Expr Joined Term). FactorOwnFits s l.factor) held.1 held.0.factor.1
 
-inside_fits : (s : Scope) (l : Factor-F (FitFactor s) (FitExpr s) (FitJoined s) (FitTerm s)) → InsideFits s (map-Factor (FitFactor s) (FitExpr s) (FitJoined s) (FitTerm s) Factor Expr Joined Term (λ one. one.0) (λ one. one.0) (λ one. one.0) (λ one. one.0) l)
+inside_fits : (s : Scope) (l : Factor-F (FitFactor s) (FitExpr s) (FitJoined s) (FitTerm s))
+    → InsideFits s (map-Factor (FitFactor s) (FitExpr s) (FitJoined s) (FitTerm s) Factor Expr Joined Term
+    (λ one. one.0) (λ one. one.0) (λ one. one.0) (λ one. one.0) l)
 unfolding ExprFits
 inside_fits s (Bracket e) = e.1
 inside_fits s _ = tt

@@ -1,5 +1,7 @@
 -- The numbering of the cells: each number below the number of cells is that of one cell.
-use Rattle.std.proofs.Common.{◌≡◌, ℕ, ◌+◌, ◌-◌, ◌*◌, ◌/◌, ◌%◌, ◌<◌, ◌≤◌, inl, inr, Bool, true, false, List, length, Option, Some, None, slice_get, refl, sym, ap, ◌∙◌, subst, arith}
+use Rattle.std.proofs.Common.{◌≡◌, ℕ, ◌+◌, ◌-◌, ◌*◌, ◌/◌, ◌%◌, ◌<◌, ◌≤◌, inl, inr, Bool, true}
+use Rattle.std.proofs.Common.{false, List, length, Option, Some, None, slice_get, refl, sym, ap}
+use Rattle.std.proofs.Common.{◌∙◌, subst, arith}
 use Rattle.std.specs.Option.{IsSomeAnd, option_map, unwrap_or}
 use Rattle.std.proofs.lemmas.Bool.{cases_lt, cases_order}
 use Rattle.std.proofs.lemmas.Nat.{mul-add-lt, same_from_place, div-add-mod', div_below, mod_below}
@@ -8,8 +10,11 @@ use Rattle.exchange_model.specs.declared.block.Block.{Block}
 use Rattle.exchange_model.specs.declared.block.File.{File}
 use Rattle.exchange_model.specs.declared.entry.Cell.{Cell}
 use Rattle.exchange_model.specs.declared.entry.Cell.TheVariants.{Variable, Field, Mark}
-use Rattle.exchange_model.specs.Cells.{marks, record_cells, file_cells, cell_count, first_cell, variable_cell, Placed, placed_files, field_cell, mark_cell, IsCell, cell_number}
-use Rattle.exchange_model.proofs.Places.{file_within, file_below, files_rise, blocks_rise, variable_below, covered}
+use Rattle.exchange_model.specs.Cells.{marks, record_cells, file_cells, cell_count, first_cell}
+use Rattle.exchange_model.specs.Cells.{variable_cell, Placed, placed_files, field_cell, mark_cell}
+use Rattle.exchange_model.specs.Cells.{IsCell, cell_number}
+use Rattle.exchange_model.proofs.Places.{file_within, file_below, files_rise, blocks_rise}
+use Rattle.exchange_model.proofs.Places.{variable_below, covered}
 
 -- what there is at a place
 pub record There {X : Type 0} (o : Option X) (P : X → Type 0) : Type 0 where
@@ -26,13 +31,16 @@ there_from (Some x) P h = record { value = x; is = refl; holds = h }
 pub variable_is_cell : (blocks : List Block) (b v : ℕ) (k : Block) → slice_get blocks b ≡ Some k → v < length k.variables → IsCell blocks (Variable b v)
 variable_is_cell blocks b v k h lt = subst (λ o. IsSomeAnd o (λ (b : Block). v < length b.variables)) (sym h) lt
 
-pub field_is_cell : (blocks : List Block) (f n x : ℕ) (p : Placed) → slice_get (placed_files blocks) f ≡ Some p → n < p.file.size → x < length p.file.fields → IsCell blocks (Field f n x)
+pub field_is_cell : (blocks : List Block) (f n x : ℕ) (p : Placed) → slice_get (placed_files blocks) f ≡ Some p
+    → n < p.file.size → x < length p.file.fields → IsCell blocks (Field f n x)
 field_is_cell blocks f n x p h inside lt = subst (λ o. IsSomeAnd o (λ (p : Placed). (n < p.file.size) × (x < length p.file.fields))) (sym h) (inside, lt)
 
-pub mark_is_cell : (blocks : List Block) (f n : ℕ) (p : Placed) → slice_get (placed_files blocks) f ≡ Some p → n < p.file.size → p.file.forlopp ≡ true → IsCell blocks (Mark f n)
+pub mark_is_cell : (blocks : List Block) (f n : ℕ) (p : Placed) → slice_get (placed_files blocks) f ≡ Some p
+    → n < p.file.size → p.file.forlopp ≡ true → IsCell blocks (Mark f n)
 mark_is_cell blocks f n p h inside marked = subst (λ o. IsSomeAnd o (λ (p : Placed). (n < p.file.size) × (p.file.forlopp ≡ true))) (sym h) (inside, marked)
 
-pub cell_number-field : (blocks : List Block) (f n x : ℕ) (p : Placed) → slice_get (placed_files blocks) f ≡ Some p → cell_number blocks (Field f n x) ≡ field_cell p n x
+pub cell_number-field : (blocks : List Block) (f n x : ℕ) (p : Placed) → slice_get (placed_files blocks) f ≡ Some p
+    → cell_number blocks (Field f n x) ≡ field_cell p n x
 cell_number-field blocks f n x p h = ap (λ o. unwrap_or (option_map (λ (p : Placed). field_cell p n x) o) 0) h
 
 pub cell_number-mark : (blocks : List Block) (f n : ℕ) (p : Placed) → slice_get (placed_files blocks) f ≡ Some p → cell_number blocks (Mark f n) ≡ mark_cell p n
@@ -137,7 +145,8 @@ field_no_mark blocks f n x g m cell a lt mark =
     let many : length a.placed.file.fields ≡ last = ap (λ (p : Placed). length p.file.fields) (same ∙ own) in
     omega (arith, many, (same_record blocks f n x g m last cell a mark.at).1)
 
-same_variable : (blocks : List Block) (b v c w : ℕ) (k l : Block) → slice_get blocks b ≡ Some k → v < length k.variables → slice_get blocks c ≡ Some l → w < length l.variables → variable_cell blocks b v ≡ variable_cell blocks c w → b ≡ c
+same_variable : (blocks : List Block) (b v c w : ℕ) (k l : Block) → slice_get blocks b ≡ Some k → v < length k.variables
+    → slice_get blocks c ≡ Some l → w < length l.variables → variable_cell blocks b v ≡ variable_cell blocks c w → b ≡ c
 same_variable blocks b v c w k l h lt i gt e =
     elim (cases_order b c) [
       | inl same ↦ same
@@ -146,7 +155,8 @@ same_variable blocks b v c w k l h lt i gt e =
     ]
 
 -- a variable is in no file
-variable_no_file : (blocks : List Block) (b v f n x cell : ℕ) (k : Block) → slice_get blocks b ≡ Some k → v < length k.variables → variable_cell blocks b v ≡ cell → IsAt blocks f n x cell → ⊥
+variable_no_file : (blocks : List Block) (b v f n x cell : ℕ) (k : Block) → slice_get blocks b ≡ Some k
+    → v < length k.variables → variable_cell blocks b v ≡ cell → IsAt blocks f n x cell → ⊥
 variable_no_file blocks b v f n x cell k h lt e a =
     let w = file_within blocks f a.placed a.there in
     let low = field_cell_below a.placed n x a.inside a.within in
@@ -214,7 +224,8 @@ pub record HasNumber (blocks : List Block) (number : ℕ) : Type 0 where
   pub same : cell_number blocks cell ≡ number
 
 -- the cell at a place of a file
-pub cell_in_file : (blocks : List Block) (f number : ℕ) (p : Placed) → slice_get (placed_files blocks) f ≡ Some p → p.first ≤ number → number < p.first + file_cells p.file → HasNumber blocks number
+pub cell_in_file : (blocks : List Block) (f number : ℕ) (p : Placed) → slice_get (placed_files blocks) f ≡ Some p
+    → p.first ≤ number → number < p.first + file_cells p.file → HasNumber blocks number
 cell_in_file blocks f number p h from below =
     let width : ℕ = record_cells p.file in
     let place : ℕ = number - p.first in

@@ -1,12 +1,16 @@
 -- Where files stand: in which block, and from which cell on.
-use Rattle.std.proofs.Common.{◌≡◌, ℕ, zero, suc, ◌+◌, ◌-◌, ◌<◌, ◌≤◌, ◌⊎◌, inl, inr, List, [], ◌∷◌, length, take, get_or, Some, slice_get, sum_by, refl, sym, ap, ◌∙◌, arith}
+use Rattle.std.proofs.Common.{◌≡◌, ℕ, zero, suc, ◌+◌, ◌-◌, ◌<◌, ◌≤◌, ◌⊎◌, inl, inr, List, [], ◌∷◌}
+use Rattle.std.proofs.Common.{length, take, get_or, Some, slice_get, sum_by, refl, sym, ap, ◌∙◌}
+use Rattle.std.proofs.Common.{arith}
 use Rattle.std.proofs.lemmas.List.{take_all}
 use Rattle.std.proofs.lemmas.List.Sums.{sum_by-cons, sum_by_more_le}
 use Rattle.std.proofs.lemmas.Bool.{cases_lt}
-use Rattle.std.proofs.lemmas.Option.{none-some, same_Some, slice_get-get_or, slice_get_read, slice_get_within, get_or_from_slice_get}
+use Rattle.std.proofs.lemmas.Option.{none-some, same_Some, slice_get-get_or, slice_get_read}
+use Rattle.std.proofs.lemmas.Option.{slice_get_within, get_or_from_slice_get}
 use Rattle.exchange_model.specs.declared.block.Block.{Block}
 use Rattle.exchange_model.specs.declared.block.File.{File}
-use Rattle.exchange_model.specs.Cells.{file_cells, block_cells, cell_count, first_cell, variable_cell, Placed, placed_in, placed_from, placed_files}
+use Rattle.exchange_model.specs.Cells.{file_cells, block_cells, cell_count, first_cell}
+use Rattle.exchange_model.specs.Cells.{variable_cell, Placed, placed_in, placed_from, placed_files}
 use Rattle.plex_num.proofs.Lists.{slice_get-append_left, slice_get-append_right}
 
 pub length-placed_in : (block cell : ℕ) (fs : List File) → length (placed_in block cell fs) ≡ length fs
@@ -14,7 +18,9 @@ length-placed_in block cell [] = refl
 length-placed_in block cell (f ∷ fs) = ap suc (length-placed_in block (cell + file_cells f) fs)
 
 -- the cells of the files before this one are counted
-pub slice_get-placed_in : (block cell : ℕ) (fs : List File) (i : ℕ) (f : File) → slice_get fs i ≡ Some f → slice_get (placed_in block cell fs) i ≡ Some (record { block = block; file = f; first = cell + sum_by file_cells (take i fs) })
+pub slice_get-placed_in : (block cell : ℕ) (fs : List File) (i : ℕ) (f : File) → slice_get fs i ≡ Some f
+    → slice_get (placed_in block cell fs) i ≡ Some
+    (record { block = block; file = f; first = cell + sum_by file_cells (take i fs) })
 slice_get-placed_in block cell [] i f h = absurd (none-some f h)
 slice_get-placed_in block cell (g ∷ fs) zero f h =
     let same : g ≡ f = same_Some g f h in
@@ -26,11 +32,16 @@ slice_get-placed_in block cell (g ∷ fs) (suc i) f h =
     let same : cell + file_cells g + sum_by file_cells (take i fs) ≡ cell + sum_by file_cells (g ∷ take i fs) = omega (arith, more) in
     here ∙ ap (λ n. Some (record { block = block; file = f; first = n })) same
 
--- the same, once the cells of the first `index` files of those before the place were counted, which are all of them
-pub found_at : (block start place cell index : ℕ) (fs : List File) (f : File) → place < length fs → f ≡ get_or fs place f → cell ≡ start + sum_by file_cells (take index (take place fs)) → length (take place fs) ≤ index → slice_get (placed_in block start fs) place ≡ Some (record { block = block; file = f; first = cell })
+-- the same, once the cells of the first `index` files of those before the place were counted, which
+-- are all of them
+pub found_at : (block start place cell index : ℕ) (fs : List File) (f : File) → place < length fs
+    → f ≡ get_or fs place f → cell ≡ start + sum_by file_cells (take index (take place fs))
+    → length (take place fs) ≤ index → slice_get (placed_in block start fs) place
+    ≡ Some (record { block = block; file = f; first = cell })
 found_at block start place cell index fs f within is counted all =
     let there : slice_get fs place ≡ Some f = slice_get_read fs (length fs) place f refl within is in
-    let same : sum_by file_cells (take index (take place fs)) ≡ sum_by file_cells (take place fs) = ap (sum_by file_cells) (take_all index (take place fs) all) in
+    let same : sum_by file_cells (take index (take place fs)) ≡ sum_by file_cells (take place fs) =
+    ap (sum_by file_cells) (take_all index (take place fs) all) in
     let first : start + sum_by file_cells (take place fs) ≡ cell = omega (arith, counted, same) in
     slice_get-placed_in block start fs place f there ∙ ap (λ n. Some (record { block = block; file = f; first = n })) first
 
@@ -96,7 +107,8 @@ stands_from block cell (b ∷ bs) n p h =
           }
     ]
 
--- a file of the exchange: its block, its place among the files of that block, and the cells before it
+-- a file of the exchange: its block, its place among the files of that block, and the cells before
+-- it
 pub record FileStands (blocks : List Block) (p : Placed) : Type 0 where
   pub owner : Block
   pub there : slice_get blocks p.block ≡ Some owner
@@ -121,14 +133,16 @@ stands blocks n p h =
 
 -- order
 
--- what stands before a place, with what stands there, is within the whole, and before each later place
+-- what stands before a place, with what stands there, is within the whole, and before each later
+-- place
 pub sum_by_within : {X : Type 0} (f : X → ℕ) (xs : List X) (i : ℕ) (x : X) → slice_get xs i ≡ Some x → sum_by f (take i xs) + f x ≤ sum_by f xs
 sum_by_within f xs i x h =
     let inside : i < length xs = slice_get_within xs i x h in
     let at : f (get_or xs i x) ≡ f x = ap f (get_or_from_slice_get xs i x x h) in
     omega (arith, sum_by_more_le f xs i x inside, at)
 
-pub sum_by_rises : {X : Type 0} (f : X → ℕ) (xs : List X) (i j : ℕ) (x : X) → slice_get xs i ≡ Some x → i < j → sum_by f (take i xs) + f x ≤ sum_by f (take j xs)
+pub sum_by_rises : {X : Type 0} (f : X → ℕ) (xs : List X) (i j : ℕ) (x : X) → slice_get xs i ≡ Some x → i < j
+    → sum_by f (take i xs) + f x ≤ sum_by f (take j xs)
 sum_by_rises f [] i j x h lt = absurd (none-some x h)
 sum_by_rises f (y ∷ ys) i zero x h lt = absurd (omega arith)
 sum_by_rises f (y ∷ ys) zero (suc j) x h lt =
@@ -141,7 +155,9 @@ sum_by_rises f (y ∷ ys) (suc i) (suc j) x h lt =
     let before : sum_by f (y ∷ take i ys) ≡ f y + sum_by f (take i ys) = sum_by-cons f y (take i ys) in
     omega (arith, rest, more, before)
 
-placed_in_rises : (block cell : ℕ) (fs : List File) (i j : ℕ) (p q : Placed) → i < j → slice_get (placed_in block cell fs) i ≡ Some p → slice_get (placed_in block cell fs) j ≡ Some q → p.first + file_cells p.file ≤ q.first
+placed_in_rises : (block cell : ℕ) (fs : List File) (i j : ℕ) (p q : Placed) → i < j
+    → slice_get (placed_in block cell fs) i ≡ Some p → slice_get (placed_in block cell fs) j ≡ Some q
+    → p.first + file_cells p.file ≤ q.first
 placed_in_rises block cell [] i j p q lt h k = absurd (none-some p h)
 placed_in_rises block cell (f ∷ fs) i zero p q lt h k = absurd (omega arith)
 placed_in_rises block cell (f ∷ fs) zero (suc j) p q lt h k =
@@ -153,12 +169,15 @@ placed_in_rises block cell (f ∷ fs) zero (suc j) p q lt h k =
 placed_in_rises block cell (f ∷ fs) (suc i) (suc j) p q lt h k =
     placed_in_rises block (cell + file_cells f) fs i j p q (omega arith) h k
 
-placed_in_ends : (block cell : ℕ) (fs : List File) (i : ℕ) (p : Placed) → slice_get (placed_in block cell fs) i ≡ Some p → p.first + file_cells p.file ≤ cell + sum_by file_cells fs
+placed_in_ends : (block cell : ℕ) (fs : List File) (i : ℕ) (p : Placed) → slice_get (placed_in block cell fs) i ≡ Some p
+    → p.first + file_cells p.file ≤ cell + sum_by file_cells fs
 placed_in_ends block cell fs i p h =
     let s = stands_in block cell fs i p h in
     omega (arith, s.first, sum_by_within file_cells fs s.place p.file s.own)
 
-placed_from_rises : (block cell : ℕ) (bs : List Block) (i j : ℕ) (p q : Placed) → i < j → slice_get (placed_from block cell bs) i ≡ Some p → slice_get (placed_from block cell bs) j ≡ Some q → p.first + file_cells p.file ≤ q.first
+placed_from_rises : (block cell : ℕ) (bs : List Block) (i j : ℕ) (p q : Placed) → i < j
+    → slice_get (placed_from block cell bs) i ≡ Some p → slice_get (placed_from block cell bs) j ≡ Some q
+    → p.first + file_cells p.file ≤ q.first
 placed_from_rises block cell [] i j p q lt h k = absurd (none-some p h)
 placed_from_rises block cell (b ∷ bs) i j p q lt h k =
     let here : List Placed = placed_in block (cell + length b.variables) b.files in
@@ -166,7 +185,8 @@ placed_from_rises block cell (b ∷ bs) i j p q lt h k =
     elim (cases_lt j (length here)) [
       | inl within ↦
           let early : i < length here = omega arith in
-          placed_in_rises block (cell + length b.variables) b.files i j p q lt (sym (slice_get-append_left here rest i early) ∙ h) (sym (slice_get-append_left here rest j within) ∙ k)
+          placed_in_rises block (cell + length b.variables) b.files i j p q lt
+          (sym (slice_get-append_left here rest i early) ∙ h) (sym (slice_get-append_left here rest j within) ∙ k)
       | inr past ↦
           let later = sym (slice_get-append_right here rest j past) ∙ k in
           elim (cases_lt i (length here)) [
@@ -175,12 +195,14 @@ placed_from_rises block cell (b ∷ bs) i j p q lt h k =
                 let s = stands_from (block + 1) (cell + block_cells b) bs (j - length here) q later in
                 omega (arith, ends, s.first)
             | inr late ↦
-                placed_from_rises (block + 1) (cell + block_cells b) bs (i - length here) (j - length here) p q (omega arith) (sym (slice_get-append_right here rest i late) ∙ h) later
+                placed_from_rises (block + 1) (cell + block_cells b) bs (i - length here) (j - length here) p q
+                (omega arith) (sym (slice_get-append_right here rest i late) ∙ h) later
           ]
     ]
 
 -- a file ends before each later one begins
-pub files_rise : (blocks : List Block) (i j : ℕ) (p q : Placed) → i < j → slice_get (placed_files blocks) i ≡ Some p → slice_get (placed_files blocks) j ≡ Some q → p.first + file_cells p.file ≤ q.first
+pub files_rise : (blocks : List Block) (i j : ℕ) (p q : Placed) → i < j → slice_get (placed_files blocks) i ≡ Some p
+    → slice_get (placed_files blocks) j ≡ Some q → p.first + file_cells p.file ≤ q.first
 unfolding placed_files
 files_rise blocks i j p q lt h k = placed_from_rises 0 0 blocks i j p q lt h k
 
@@ -214,7 +236,8 @@ block_below blocks b k h = sum_by_within block_cells blocks b k h
 pub blocks_rise : (blocks : List Block) (b c : ℕ) (k : Block) → slice_get blocks b ≡ Some k → b < c → first_cell blocks b + block_cells k ≤ first_cell blocks c
 blocks_rise blocks b c k h lt = sum_by_rises block_cells blocks b c k h lt
 
-pub variable_below : (blocks : List Block) (b v : ℕ) (k : Block) → slice_get blocks b ≡ Some k → v < length k.variables → variable_cell blocks b v < cell_count blocks
+pub variable_below : (blocks : List Block) (b v : ℕ) (k : Block) → slice_get blocks b ≡ Some k → v < length k.variables
+    → variable_cell blocks b v < cell_count blocks
 variable_below blocks b v k h lt = omega (arith, block_below blocks b k h)
 
 -- each cell is of a variable or of a file
@@ -246,7 +269,8 @@ covered_in block start (f ∷ fs) cell from below =
           record { number = suc r.number; placed = r.placed; there = r.there; from = r.from; below = r.below }
     ]
 
-covered_from : (block start : ℕ) (bs : List Block) (cell : ℕ) → start ≤ cell → cell < start + cell_count bs → InVariables start bs cell ⊎ InFile (placed_from block start bs) cell
+covered_from : (block start : ℕ) (bs : List Block) (cell : ℕ) → start ≤ cell → cell < start + cell_count bs
+    → InVariables start bs cell ⊎ InFile (placed_from block start bs) cell
 covered_from block start [] cell from below = absurd (omega arith)
 covered_from block start (b ∷ bs) cell from below =
     let more : cell_count (b ∷ bs) ≡ block_cells b + cell_count bs = sum_by-cons block_cells b bs in
@@ -259,12 +283,25 @@ covered_from block start (b ∷ bs) cell from below =
             | inl own ↦
                 let r = covered_in block (start + length b.variables) b.files cell later (omega arith) in
                 let inside : r.number < length here = slice_get_within here r.number r.placed r.there in
-                inr (record { number = r.number; placed = r.placed; there = slice_get-append_left here rest r.number inside ∙ r.there; from = r.from; below = r.below })
+                inr (record {
+                  number = r.number;
+                  placed = r.placed;
+                  there = slice_get-append_left here rest r.number inside ∙ r.there;
+                  from = r.from;
+                  below = r.below;
+                })
             | inr past ↦
                 elim (covered_from (block + 1) (start + block_cells b) bs cell past (omega (arith, more))) [
                   | inl v ↦
-                      let next : cell_count (b ∷ take v.block bs) ≡ block_cells b + cell_count (take v.block bs) = sum_by-cons block_cells b (take v.block bs) in
-                      inl (record { block = suc v.block; owner = v.owner; there = v.there; from = omega (arith, v.from, next); below = omega (arith, v.below, next) })
+                      let next : cell_count (b ∷ take v.block bs) ≡ block_cells b + cell_count (take v.block bs) =
+                      sum_by-cons block_cells b (take v.block bs) in
+                      inl (record {
+                        block = suc v.block;
+                        owner = v.owner;
+                        there = v.there;
+                        from = omega (arith, v.from, next);
+                        below = omega (arith, v.below, next);
+                      })
                   | inr r ↦
                       let after : length here ≤ length here + r.number = omega arith in
                       let at : length here + r.number - length here ≡ r.number = omega arith in

@@ -1,4 +1,5 @@
--- What is said of all layers of a statement, at whatever depth: one layer, and the same of each of its parts.
+-- What is said of all layers of a statement, at whatever depth: one layer, and the same of each of
+-- its parts.
 use Rattle.std.specs.Prelude.{List}
 use Rattle.std.specs.List.{AllByRecursion}
 use Rattle.exchange_model.specs.declared.stmt.Stmt.{Stmt}
@@ -21,6 +22,7 @@ AllIn P list = AllByRecursion (λ (one : Stmt). Everywhere P one.kind) list
 -- the statements in one layer
 abbrev pub PartsKeep : {K : Type 0} → (Layer → Type 0) → StmtKind-F K Stmt When → Type 0
 PartsKeep P (layer.If cond yes_part no_part) = AllIn P yes_part × AllIn P no_part
-PartsKeep P (layer.Case value whens otherwise) = AllByRecursion (λ w. AllIn P (out-When w).body) whens × AllIn P otherwise
+PartsKeep P (layer.Case value whens otherwise) =
+    AllByRecursion (λ w. AllIn P (out-When w).body) whens × AllIn P otherwise
 PartsKeep P (layer.On temp from upto body) = AllIn P body
 PartsKeep P _ = Unit {0}

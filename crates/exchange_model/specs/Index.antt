@@ -1,6 +1,7 @@
--- What an exchange knows by number, so that nothing is looked for by a walk: of each block its first cell, of each file where
--- it stands, and of each signal of a block its entry and its ENTER.
-use Rattle.std.specs.Prelude.{◌≡◌, ℕ, ◌+◌, Bool, ◌&&◌, nat_eq, List, [], ◌∷◌, ◌++◌, length, position, Option, Some, None, slice_get, if◌then◌else◌}
+-- What an exchange knows by number, so that nothing is looked for by a walk: of each block its
+-- first cell, of each file where it stands, and of each signal of a block its entry and its ENTER.
+use Rattle.std.specs.Prelude.{◌≡◌, ℕ, ◌+◌, Bool, ◌&&◌, nat_eq, List, [], ◌∷◌, ◌++◌, length}
+use Rattle.std.specs.Prelude.{position, Option, Some, None, slice_get, if◌then◌else◌}
 use Rattle.std.specs.List.{find}
 use Rattle.std.specs.Option.{MatchOption, option_map, option_or}
 use Rattle.std.specs.HashMap.{get}
@@ -15,12 +16,14 @@ use Rattle.exchange_model.specs.declared.index.Index.{Index}
 use Rattle.exchange_model.specs.Cells.{file_cells, block_cells, placed_files}
 use Rattle.exchange_model.specs.Parts.{Parts}
 
--- what is found of the file of a number: nothing exactly where there is none, else the file, its block and its first cell
+-- what is found of the file of a number: nothing exactly where there is none, else the file, its
+-- block and its first cell
 abbrev pub FindsFile : List Block → ℕ → Option FilePlace → Type 0
 FindsFile blocks number found =
     MatchOption found
     (slice_get (placed_files blocks) number ≡ None)
-    (λ p. slice_get (placed_files blocks) number ≡ Some (record { block = p.block; file = p.file.now; first = p.first }))
+    (λ p. slice_get (placed_files blocks) number
+    ≡ Some (record { block = p.block; file = p.file.now; first = p.first }))
 
 -- the first cells of these blocks, the first of which begins at this cell
 unfoldable pub firsts_from : ℕ → List Block → List ℕ
@@ -30,12 +33,14 @@ firsts_from cell (b ∷ bs) = cell ∷ firsts_from (cell + block_cells b) bs
 -- where these files of a block stand, the first of which has this place and begins at this cell
 unfoldable pub positions_in : ℕ → ℕ → ℕ → List File → List FilePosition
 positions_in block place cell [] = []
-positions_in block place cell (f ∷ fs) = record { block = block; place = place; first = cell } ∷ positions_in block (place + 1) (cell + file_cells f) fs
+positions_in block place cell (f ∷ fs) = record { block = block; place = place; first = cell }
+    ∷ positions_in block (place + 1) (cell + file_cells f) fs
 
 -- where the files of these blocks stand, the first of which has this number and begins at this cell
 unfoldable pub positions_from : ℕ → ℕ → List Block → List FilePosition
 positions_from block cell [] = []
-positions_from block cell (b ∷ bs) = positions_in block 0 (cell + length b.variables) b.files ++ positions_from (block + 1) (cell + block_cells b) bs
+positions_from block cell (b ∷ bs) = positions_in block 0 (cell + length b.variables) b.files
+    ++ positions_from (block + 1) (cell + block_cells b) bs
 
 -- an entry of this block and this signal
 abbrev pub is_entry : ℕ → ℕ → Entry → Bool
@@ -43,7 +48,8 @@ is_entry block signal e = nat_eq e.block block && nat_eq e.signal signal
 
 -- the place of the ENTER of a signal, by the first row of that signal
 abbrev pub place_in : List Row → ℕ → Option ℕ
-place_in rows signal = option_map (λ (r : Row). r.place) (find (λ (r : Row). nat_eq r.signal signal) rows)
+place_in rows signal =
+    option_map (λ (r : Row). r.place) (find (λ (r : Row). nat_eq r.signal signal) rows)
 
 -- the same in a block, if it is there
 abbrev pub rows_of : Option Block → List Row
@@ -64,16 +70,19 @@ noted n block signal = get is_pair n.numbers (block, signal)
 -- a number is noted of a block and a signal, unless one was, and what was noted stays
 abbrev pub HasNoted : Noted → Noted → ℕ → ℕ → ℕ → Type 0
 HasNoted before after block signal number =
-    (b s : ℕ) → noted after b s ≡ option_or (noted before b s) (if nat_eq block b && nat_eq signal s then Some number else None)
+    (b s : ℕ) → noted after b s ≡ option_or (noted before b s)
+    (if nat_eq block b && nat_eq signal s then Some number else None)
 
 -- the places of these rows of a block are noted
 abbrev pub HasNotedRows : Noted → Noted → ℕ → List Row → Type 0
 HasNotedRows before after block rows =
-    (b s : ℕ) → noted after b s ≡ option_or (noted before b s) (if nat_eq block b then place_in rows s else None)
+    (b s : ℕ) → noted after b s ≡ option_or (noted before b s)
+    (if nat_eq block b then place_in rows s else None)
 
 -- what is noted is the entry of each block and signal
 abbrev pub IsOfEntries : Noted → List Entry → Type 0
-IsOfEntries n entries = (block signal : ℕ) → noted n block signal ≡ position (is_entry block signal) entries
+IsOfEntries n entries =
+    (block signal : ℕ) → noted n block signal ≡ position (is_entry block signal) entries
 
 -- what is noted is the ENTER of each block and signal
 abbrev pub IsOfEnters : Noted → List Block → Type 0

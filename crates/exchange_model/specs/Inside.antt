@@ -8,7 +8,9 @@ use Rattle.exchange_model.specs.declared.expr.Cond.{Cond}
 use Rattle.exchange_model.specs.declared.expr.Relation.{Relation}
 use Rattle.exchange_model.specs.declared.stmt.Stmt.{Stmt}
 use Rattle.exchange_model.specs.declared.stmt.StmtKind.{StmtKind, StmtKind-F, fold-StmtKind}
-use Rattle.exchange_model.specs.declared.stmt.StmtKind.TheOpen.{SetTemp, SetVariable, SetField, IfGoto, If, Case, On, ForFirst, Send, Return}
+use Rattle.exchange_model.specs.declared.stmt.StmtKind.TheOpen.{SetTemp, SetVariable, SetField}
+use Rattle.exchange_model.specs.declared.stmt.StmtKind.TheOpen.{IfGoto, If, Case, On, ForFirst}
+use Rattle.exchange_model.specs.declared.stmt.StmtKind.TheOpen.{Send, Return}
 
 -- the greatest of these numbers, and 0 of none
 abbrev pub most : List ℕ → ℕ
@@ -31,15 +33,18 @@ factor_depth (Bracket n) = n + 1
 factor_depth _ = 0
 
 unfoldable pub bracket_depth : Expr → ℕ
-bracket_depth = fold-Expr ℕ ℕ ℕ ℕ factor_depth (λ e. most e.terms) (λ j. j.factor) (λ t. most t.factors)
+bracket_depth = fold-Expr ℕ ℕ ℕ ℕ factor_depth (λ e. most e.terms) (λ j. j.factor)
+    (λ t. most t.factors)
 
--- how many numbers, names, fields and references an expression has; the pointer of a field counts nothing
+-- how many numbers, names, fields and references an expression has; the pointer of a field counts
+-- nothing
 abbrev pub factor_operands : Factor-F ℕ ℕ ℕ ℕ → ℕ
 factor_operands (Bracket n) = n
 factor_operands _ = 1
 
 unfoldable pub operand_count : Expr → ℕ
-operand_count = fold-Expr ℕ ℕ ℕ ℕ factor_operands (λ e. total e.terms) (λ j. j.factor) (λ t. total t.factors)
+operand_count = fold-Expr ℕ ℕ ℕ ℕ factor_operands (λ e. total e.terms) (λ j. j.factor)
+    (λ t. total t.factors)
 
 -- the expressions of a condition
 abbrev pub relation_exprs : List Relation → List Expr
@@ -82,18 +87,21 @@ pub record PointLine : Type 0 where
   pub line : ℕ
 
 -- those of the statements in a statement, in the order of the text
-abbrev pub kind_layer_spots : StmtKind-F (List PointLine) (List PointLine) (List PointLine) → List PointLine
+abbrev pub kind_layer_spots : StmtKind-F (List PointLine) (List PointLine) (List PointLine)
+    → List PointLine
 kind_layer_spots (If cond yes_part no_part) = joined yes_part ++ joined no_part
 kind_layer_spots (Case value whens otherwise) = joined whens ++ joined otherwise
 kind_layer_spots (On temp from upto body) = joined body
 kind_layer_spots _ = []
 
 unfoldable pub inner_spots : StmtKind → List PointLine
-inner_spots = fold-StmtKind (List PointLine) (List PointLine) (List PointLine) kind_layer_spots (λ s. record { point = s.point; line = s.line } ∷ s.kind) (λ w. joined w.body)
+inner_spots = fold-StmtKind (List PointLine) (List PointLine) (List PointLine) kind_layer_spots
+    (λ s. record { point = s.point; line = s.line } ∷ s.kind) (λ w. joined w.body)
 
 -- those of a text
 abbrev pub spots : List Stmt → List PointLine
-spots body = joined (map (λ (s : Stmt). record { point = s.point; line = s.line } ∷ inner_spots s.kind) body)
+spots body = joined (map (λ (s : Stmt). record { point = s.point; line = s.line }
+    ∷ inner_spots s.kind) body)
 
 -- how many choices the CASEs of a statement have
 abbrev pub kind_layer_whens : StmtKind-F ℕ ℕ ℕ → ℕ

@@ -1,14 +1,20 @@
--- What an exchange keeps: the numbering of all that it holds, its limits, and the rules that its signals and blocks follow.
+-- What an exchange keeps: the numbering of all that it holds, its limits, and the rules that its
+-- signals and blocks follow.
 --
--- Every later layer takes the facts that it needs from here. The numberings are equations, so that an entry, a point or
--- a row of a table is where its definition puts it, and nowhere else.
-use Rattle.std.specs.Prelude.{◌≡◌, ℕ, ◌+◌, ◌<◌, ◌≤◌, ◌^◌, nat_eq, Bool, true, false, List, [], ◌∷◌, ◌++◌, length, map, Option, Some, None, slice_get}
+-- Every later layer takes the facts that it needs from here. The numberings are equations, so that
+-- an entry, a point or a row of a table is where its definition puts it, and nowhere else.
+use Rattle.std.specs.Prelude.{◌≡◌, ℕ, ◌+◌, ◌<◌, ◌≤◌, ◌^◌, nat_eq, Bool, true, false, List, [], ◌∷◌}
+use Rattle.std.specs.Prelude.{◌++◌, length, map, Option, Some, None, slice_get}
 use Rattle.std.specs.Str.{bytes_eq}
 use Rattle.std.specs.List.{AllByRecursion, IsDistinct, cons_option, range_with_len}
 use Rattle.std.specs.Option.{IsSomeAnd}
-use Rattle.plex_limits.specs.declared.limits.TheConstants.{MOST_SIGNALS, MOST_BLOCKS, MOST_ENTRIES, MOST_STATEMENTS, MOST_TEMPORARIES, MOST_VALUES, MOST_NESTED, MOST_RECORDS, MOST_CELLS, MOST_WHENS}
+use Rattle.plex_limits.specs.declared.limits.TheConstants.{MOST_SIGNALS, MOST_BLOCKS, MOST_ENTRIES}
+use Rattle.plex_limits.specs.declared.limits.TheConstants.{MOST_STATEMENTS, MOST_TEMPORARIES}
+use Rattle.plex_limits.specs.declared.limits.TheConstants.{MOST_VALUES, MOST_NESTED, MOST_RECORDS}
+use Rattle.plex_limits.specs.declared.limits.TheConstants.{MOST_CELLS, MOST_WHENS}
 use Rattle.exchange_model.specs.declared.signal.SignalKind.{SignalKind}
-use Rattle.exchange_model.specs.declared.signal.SignalKind.TheVariants.{Buffered, Direct, Combined, Answer, Outside}
+use Rattle.exchange_model.specs.declared.signal.SignalKind.TheVariants.{Buffered, Direct, Combined}
+use Rattle.exchange_model.specs.declared.signal.SignalKind.TheVariants.{Answer, Outside}
 use Rattle.exchange_model.specs.declared.block.Block.{Block}
 use Rattle.exchange_model.specs.declared.block.Variable.{Variable}
 use Rattle.exchange_model.specs.declared.block.File.{File}
@@ -57,8 +63,10 @@ IsAnsweredBy answer _ = ⊥
 
 -- a combined signal's answer has the next number, and an answer's combined signal the one before
 abbrev pub IsAnswered : List SignalKind → ℕ → SignalKind → Type 0
-IsAnswered signals i (Combined name count answer) = (answer ≡ i + 1) × IsAnswerOf i (slice_get signals answer)
-IsAnswered signals i (Answer name count combined) = (i ≡ combined + 1) × IsAnsweredBy i (slice_get signals combined)
+IsAnswered signals i (Combined name count answer) =
+    (answer ≡ i + 1) × IsAnswerOf i (slice_get signals answer)
+IsAnswered signals i (Answer name count combined) =
+    (i ≡ combined + 1) × IsAnsweredBy i (slice_get signals combined)
 IsAnswered signals i _ = Unit {0}
 
 pub record SignalsKept (signals : List SignalKind) : Type 0 where
@@ -91,7 +99,9 @@ variable_names variables = map (λ v. v.name) variables
 -- all names that a block declares: those of its variables, temporaries, files, fields and labels
 abbrev pub block_names : Block → List (List ℕ)
 block_names k =
-    variable_names k.variables ++ (k.temporaries ++ (joined (map (λ (f : File). f.name ∷ variable_names f.fields) k.files) ++ map (λ (l : Label). l.name) k.labels))
+    variable_names k.variables ++ (k.temporaries
+    ++ (joined (map (λ (f : File). f.name ∷ variable_names f.fields) k.files)
+    ++ map (λ (l : Label). l.name) k.labels))
 
 -- a signal that a block may send
 abbrev pub CanBeSent : Option SignalKind → Type 0
@@ -115,7 +125,8 @@ row_at (Some signal) place = Some (record { signal = signal; place = place })
 -- the ENTERs of a body, the first statement of which stands at this place
 unfoldable pub enters_from : ℕ → List Stmt → List Row
 enters_from place [] = []
-enters_from place (s ∷ rest) = cons_option (row_at (entered (out-StmtKind s.kind)) place) (enters_from (place + 1) rest)
+enters_from place (s ∷ rest) =
+    cons_option (row_at (entered (out-StmtKind s.kind)) place) (enters_from (place + 1) rest)
 
 -- the end of the text is the last statement, and no other is one
 abbrev pub IsFinish : {K S W : Type 0} → StmtKind-F K S W → Type 0
@@ -128,14 +139,22 @@ IsNotFinish _ = Unit {0}
 
 pub data IsText : List Stmt → Type 0 where
   ends : {s : Stmt} → IsFinish (out-StmtKind s.kind) → IsText (s ∷ [])
-  goes : {s : Stmt} {rest : List Stmt} → IsNotFinish (out-StmtKind s.kind) → IsText rest → IsText (s ∷ rest)
+  goes : {s : Stmt} {rest : List Stmt} → IsNotFinish (out-StmtKind s.kind) → IsText rest
+      → IsText (s ∷ rest)
 
 -- a label stands at a statement of the body, and not between a SEND and its RETRIEVE
 abbrev pub IsLabelAt : List Stmt → Label → Type 0
-IsLabelAt body l = IsSomeAnd (slice_get body l.place) (λ (s : Stmt). retrieved (out-StmtKind s.kind) ≡ None)
+IsLabelAt body l = IsSomeAnd (slice_get body l.place)
+    (λ (s : Stmt). retrieved (out-StmtKind s.kind) ≡ None)
 
 abbrev pub scope_of : Parts → ℕ → Block → Scope
-scope_of x b k = record { signals = x.signals; blocks = x.blocks; files = placed_files x.blocks; number = b; block = k }
+scope_of x b k = record {
+  signals = x.signals;
+  blocks = x.blocks;
+  files = placed_files x.blocks;
+  number = b;
+  block = k;
+}
 
 -- a block by its number
 pub record BlockKept (x : Parts) (b : ℕ) (k : Block) : Type 0 where
@@ -167,11 +186,13 @@ all_spots blocks = joined (map (λ (k : Block). spots k.body) blocks)
 -- the points of these blocks, the first of which has this number
 unfoldable pub points_from : ℕ → List Block → List PointInfo
 points_from b [] = []
-points_from b (k ∷ rest) = map (λ (s : PointLine). record { block = b; line = s.line }) (spots k.body) ++ points_from (b + 1) rest
+points_from b (k ∷ rest) = map (λ (s : PointLine). record { block = b; line = s.line })
+    (spots k.body) ++ points_from (b + 1) rest
 
 -- an ENTER of a buffered signal is an entry
 abbrev pub entry_of : Option SignalKind → ℕ → ℕ → ℕ → Option Entry
-entry_of (Some (Buffered name level count)) b signal point = Some (record { block = b; signal = signal; point = point })
+entry_of (Some (Buffered name level count)) b signal point =
+    Some (record { block = b; signal = signal; point = point })
 entry_of _ b signal point = None
 
 abbrev pub entry_at : List SignalKind → Option ℕ → ℕ → ℕ → Option Entry
@@ -180,7 +201,8 @@ entry_at signals (Some signal) b point = entry_of (slice_get signals signal) b s
 
 abbrev pub entries_in : List SignalKind → ℕ → List Stmt → List Entry
 entries_in signals b [] = []
-entries_in signals b (s ∷ rest) = cons_option (entry_at signals (entered (out-StmtKind s.kind)) b s.point) (entries_in signals b rest)
+entries_in signals b (s ∷ rest) = cons_option (entry_at signals (entered (out-StmtKind s.kind)) b
+    s.point) (entries_in signals b rest)
 
 -- the entries of these blocks, the first of which has this number
 unfoldable pub entries_from : List SignalKind → ℕ → List Block → List Entry
@@ -189,9 +211,11 @@ entries_from signals b (k ∷ rest) = entries_in signals b k.body ++ entries_fro
 
 -- statements, points, files, entries and cells are numbered in the order of the text
 pub record Numbered (x : Parts) : Type 0 where
-  pub statements : map (λ (s : PointLine). s.point) (all_spots x.blocks) ≡ range_with_len 0 (length (all_spots x.blocks))
+  pub statements : map (λ (s : PointLine). s.point) (all_spots x.blocks)
+      ≡ range_with_len 0 (length (all_spots x.blocks))
   pub points : x.points ≡ points_from 0 x.blocks
-  pub files : map (λ (p : Placed). p.file.number) (placed_files x.blocks) ≡ range_with_len 0 (length (placed_files x.blocks))
+  pub files : map (λ (p : Placed). p.file.number) (placed_files x.blocks)
+      ≡ range_with_len 0 (length (placed_files x.blocks))
   pub entries : x.entries ≡ entries_from x.signals 0 x.blocks
   pub cells : x.cells ≡ cell_count x.blocks
 

@@ -1,5 +1,6 @@
--- How texts name what has a number in an exchange, and the level at which the jobs of an entry wait. What an exchange does not have
--- is named by no bytes, so that no name asks anything of a number.
+-- How texts name what has a number in an exchange, and the level at which the jobs of an entry
+-- wait. What an exchange does not have is named by no bytes, so that no name asks anything of a
+-- number.
 use Rattle.std.specs.Prelude.{ℕ, List, [], ◌++◌, codes, map, Option, Some, slice_get}
 use Rattle.std.specs.Option.{option_map_or}
 use Rattle.plex_num.specs.declared.level.Level.{Level}
@@ -41,4 +42,5 @@ signal_level (Some (Buffered name level count)) = level
 signal_level _ = B
 
 abbrev pub level_of : Parts → ℕ → Level
-level_of x entry = option_map_or (λ (e : Entry). signal_level (slice_get x.signals e.signal)) (slice_get x.entries entry) B
+level_of x entry = option_map_or (λ (e : Entry). signal_level (slice_get x.signals e.signal))
+    (slice_get x.entries entry) B

@@ -1,5 +1,5 @@
--- The store before the first job, in the order of the cells: each variable and each field has its INIT value, and all records
--- are free.
+-- The store before the first job, in the order of the cells: each variable and each field has its
+-- INIT value, and all records are free.
 use Rattle.std.specs.Prelude.{ℕ, Bool, true, false, List, [], ◌∷◌, ◌++◌, map, replicate}
 use Rattle.exchange_model.specs.declared.block.Block.{Block}
 use Rattle.exchange_model.specs.declared.block.Variable.{Variable}

@@ -9,7 +9,8 @@ use Rattle.exchange_model.specs.declared.stmt.Stmt.{Stmt}
 use Rattle.exchange_model.specs.declared.stmt.When.{When}
 use Rattle.exchange_model.specs.declared.stmt.StmtKind.{StmtKind-F}
 use Rattle.exchange_model.specs.Everywhere.{AllIn, PartsKeep}
-use Rattle.exchange_model.specs.Fits.{Scope, LayerFits, FactorFits, TermsStand, FactorsStand, ExprFits}
+use Rattle.exchange_model.specs.Fits.{Scope, LayerFits, FactorFits, TermsStand, FactorsStand}
+use Rattle.exchange_model.specs.Fits.{ExprFits}
 
 -- all of these statements, with all those in them, are of the block
 abbrev pub StmtsFit : Scope → List Stmt → Type 0
@@ -21,15 +22,18 @@ PartsFit s l = PartsKeep (LayerFits s) l
 
 -- a term of the block
 unfoldable pub TermFits : Scope → Term → Type 0
-TermFits s = every-Term (FactorFits s) (λ e. TermsStand e.terms) (λ j. Unit {0}) (λ t. FactorsStand t.factors)
+TermFits s = every-Term (FactorFits s) (λ e. TermsStand e.terms) (λ j. Unit {0})
+    (λ t. FactorsStand t.factors)
 
 -- a factor of the block, with how it is joined
 unfoldable pub JoinedFits : Scope → Joined → Type 0
-JoinedFits s = every-Joined (FactorFits s) (λ e. TermsStand e.terms) (λ j. Unit {0}) (λ t. FactorsStand t.factors)
+JoinedFits s = every-Joined (FactorFits s) (λ e. TermsStand e.terms) (λ j. Unit {0})
+    (λ t. FactorsStand t.factors)
 
 -- a factor of the block, with all that is in its brackets
 unfoldable pub FactorOwnFits : Scope → Factor → Type 0
-FactorOwnFits s = every-Factor (FactorFits s) (λ e. TermsStand e.terms) (λ j. Unit {0}) (λ t. FactorsStand t.factors)
+FactorOwnFits s = every-Factor (FactorFits s) (λ e. TermsStand e.terms) (λ j. Unit {0})
+    (λ t. FactorsStand t.factors)
 
 -- what is in brackets
 abbrev pub InsideFits : {A B C : Type 0} → Scope → Factor-F A Expr B C → Type 0

@@ -14,4 +14,5 @@ pub record Parts : Type 0 where
 
 -- an exchange of these parts
 abbrev pub parts : List SignalKind → List Block → List Entry → List PointInfo → ℕ → Parts
-parts signals blocks entries points cells = record { signals = signals; blocks = blocks; entries = entries; points = points; cells = cells }
+parts signals blocks entries points cells =
+    record { signals = signals; blocks = blocks; entries = entries; points = points; cells = cells }

@@ -1,7 +1,8 @@
 -- How numbers stand to one another.
 use Rattle.std.specs.Prelude.{ℕ, Bool, nat_lt, nat_le, nat_eq, not}
 use Rattle.exchange_model.specs.declared.expr.Rel.{Rel}
-use Rattle.exchange_model.specs.declared.expr.Rel.TheVariants.{Equal, Unequal, Below, AtMost, Above, AtLeast}
+use Rattle.exchange_model.specs.declared.expr.Rel.TheVariants.{Equal, Unequal, Below, AtMost, Above}
+use Rattle.exchange_model.specs.declared.expr.Rel.TheVariants.{AtLeast}
 
 -- whether a number stands so to another
 abbrev pub stands : Rel → ℕ → ℕ → Bool

@@ -10,7 +10,8 @@ pub struct Block {
     pub variables: Seq<Variable>,
     pub temporaries: Seq<Name>,
     pub files: Seq<File>,
-    /// The signals that the block may send, by number, in the order in which its survey first names them.
+    /// The signals that the block may send, by number, in the order in which its survey first names
+    /// them.
     pub sends: Seq<u32>,
     pub enters: Seq<Enter>,
     pub labels: Seq<Label>,
@@ -32,8 +33,8 @@ impl Drop for Block {
     }
 }
 
-/// A stored variable, or a field: its width in bits, its value before the first job, and whether a restart gives it that
-/// value again, which is so of no field.
+/// A stored variable, or a field: its width in bits, its value before the first job, and whether a
+/// restart gives it that value again, which is so of no field.
 #[derive(Drop)]
 pub struct Variable {
     pub name: Name,
@@ -42,8 +43,8 @@ pub struct Variable {
     pub clear: bool,
 }
 
-/// A file: its number through the exchange, and its records, which are numbered from 0. Those of a forlopp file are
-/// seized and freed.
+/// A file: its number through the exchange, and its records, which are numbered from 0. Those of a
+/// forlopp file are seized and freed.
 pub struct File {
     pub name: Name,
     pub number: u32,
@@ -73,8 +74,8 @@ pub struct FilePlace<'a> {
     pub first: u32,
 }
 
-/// A row of a block's signal distribution table: a received signal, by its number, and the place of its
-/// ENTER in the body.
+/// A row of a block's signal distribution table: a received signal, by its number, and the place of
+/// its ENTER in the body.
 #[derive(Clone, Copy, PartialEq, Eq)]
 pub struct Enter {
     pub signal: u32,
@@ -89,7 +90,8 @@ pub struct Label {
 }
 
 impl File {
-    /// How many cells one record has: its fields and, in a forlopp file, its mark. They must be below 2^32.
+    /// How many cells one record has: its fields and, in a forlopp file, its mark. They must be
+    /// below 2^32.
     pub fn record_cells(&self) -> u32
         requires { record_cells self.now < 2 ^ 32 }
         ensures { result ≡ record_cells self.now }

@@ -13,8 +13,9 @@ pub struct PointInfo {
     pub line: u32,
 }
 
-/// What a stored word is of: a variable of a block, a field of a record, or the mark of a record of a forlopp file, which
-/// is 1 where the record is seized. Files are numbered through the exchange, records and fields in their file.
+/// What a stored word is of: a variable of a block, a field of a record, or the mark of a record of
+/// a forlopp file, which is 1 where the record is seized. Files are numbered through the exchange,
+/// records and fields in their file.
 #[derive(Clone, Copy, PartialEq, Eq)]
 pub enum Cell {
     Variable { block: u32, index: u32 },

@@ -14,8 +14,9 @@ use plex_num::{Level, Memory, Seq};
 use std::alloc::Global;
 use std::marker::Model;
 
-/// An exchange: signals, blocks, the entries at which jobs start, and the points, which are the statements
-/// of all blocks in order. `cells` counts the stored variables, fields and marks of all blocks.
+/// An exchange: signals, blocks, the entries at which jobs start, and the points, which are the
+/// statements of all blocks in order. `cells` counts the stored variables, fields and marks of all
+/// blocks.
 pub struct Exchange {
     pub signals: Seq<SignalKind>,
     pub blocks: Seq<Block>,
@@ -51,12 +52,13 @@ impl Model for Exchange {
 
     ghost view = { λ x. parts x.signals x.blocks x.entries x.points x.cells };
 
-    ghost invariant = { λ x. IsExchange (parts x.signals x.blocks x.entries x.points x.cells) × IsIndex (parts x.signals x.blocks x.entries x.points x.cells) x.index };
+    ghost invariant = { λ x. IsExchange (parts x.signals x.blocks x.entries x.points x.cells)
+        × IsIndex (parts x.signals x.blocks x.entries x.points x.cells) x.index };
 }
 
 impl Exchange {
-    /// The exchange of these parts, which must keep all that an exchange keeps. Files, entries and ENTERs are looked up in it
-    /// without a walk, by what is noted of them here.
+    /// The exchange of these parts, which must keep all that an exchange keeps. Files, entries and
+    /// ENTERs are looked up in it without a walk, by what is noted of them here.
     pub fn new(
         alloc: Global,
         signals: Seq<SignalKind>,

@@ -3,14 +3,16 @@ ghost use Rattle.exchange_model.specs.Relations.{stands};
 
 use plex_num::Seq;
 
-/// A sum of terms, from left to right. In an exchange no list in it is empty, and its first term has no minus.
+/// A sum of terms, from left to right. In an exchange no list in it is empty, and its first term
+/// has no minus.
 #[derive(Drop)]
 #[cycle(expr)]
 pub struct Expr {
     pub terms: Seq<Term>,
 }
 
-/// A product of factors, from left to right, which is added to what stands before it or taken from it.
+/// A product of factors, from left to right, which is added to what stands before it or taken from
+/// it.
 #[derive(Drop)]
 #[cycle(expr)]
 pub struct Term {
@@ -18,7 +20,8 @@ pub struct Term {
     pub factors: Seq<Joined>,
 }
 
-/// A factor, and how it is joined to those before it. In an exchange the first of a term has `Times`.
+/// A factor, and how it is joined to those before it. In an exchange the first of a term has
+/// `Times`.
 #[derive(Drop)]
 #[cycle(expr)]
 pub struct Joined {
@@ -43,15 +46,16 @@ pub enum Factor {
     Variable(u32),
     /// A temporary, by its place in the list of its block.
     Temporary(u8),
-    /// A field of a file, which its number through the exchange tells, of the record whose number the temporary
-    /// `pointer` has. The field is a place in the list of its file.
+    /// A field of a file, which its number through the exchange tells, of the record whose number
+    /// the temporary `pointer` has. The field is a place in the list of its file.
     Field { file: u32, field: u32, pointer: u8 },
     Bracket(Expr),
     /// 1 plus the number of a block, which is counted from 0 through the exchange.
     Reference(u32),
 }
 
-/// A condition: it holds where all relations of one of the lists hold. In an exchange no list in it is empty.
+/// A condition: it holds where all relations of one of the lists hold. In an exchange no list in it
+/// is empty.
 pub struct Cond {
     pub any: Seq<Seq<Relation>>,
 }

@@ -1,7 +1,9 @@
 // What an exchange knows by number.
-ghost use Rattle.std.specs.Prelude.{◌≡◌, ◌+◌, ◌<◌, ◌≤◌, ◌^◌, ◌++◌, ℕ, length, sum_by, slice_get, IfOk, OnOk, None};
+ghost use Rattle.std.specs.Prelude.{◌≡◌, ◌+◌, ◌<◌, ◌≤◌, ◌^◌, ◌++◌, ℕ, length, sum_by, slice_get};
+ghost use Rattle.std.specs.Prelude.{IfOk, OnOk, None};
 ghost use Rattle.exchange_model.specs.Cells.{cell_count, file_cells};
-ghost use Rattle.exchange_model.specs.Index.{HasNoted, HasNotedRows, IsOfEnters, IsOfEntries, firsts_from, noted, positions_from, positions_in};
+ghost use Rattle.exchange_model.specs.Index.{HasNoted, HasNotedRows, IsOfEnters, IsOfEntries};
+ghost use Rattle.exchange_model.specs.Index.{firsts_from, noted, positions_from, positions_in};
 
 use crate::block::{Block, Enter, File};
 use crate::entry::Entry;
@@ -10,8 +12,8 @@ use plex_num::{Memory, Seed, Seq};
 use std::alloc::Global;
 use std::collections::HashMap;
 
-/// Where a file stands: the number of its block, its place in the list of that block, and the cell at which its records
-/// begin.
+/// Where a file stands: the number of its block, its place in the list of that block, and the cell
+/// at which its records begin.
 #[derive(Clone, Copy)]
 pub(crate) struct FilePosition {
     pub(crate) block: u32,
@@ -30,8 +32,8 @@ impl Drop for Noted {
     }
 }
 
-/// Of each block its first cell, of each file where it stands, and of each signal of a block the number of its entry and
-/// the place of its ENTER.
+/// Of each block its first cell, of each file where it stands, and of each signal of a block the
+/// number of its entry and the place of its ENTER.
 pub(crate) struct Index {
     pub(crate) firsts: Seq<u32>,
     pub(crate) files: Seq<FilePosition>,
@@ -124,7 +126,8 @@ fn positions_of(alloc: Global, blocks: &[Block]) -> Result<Seq<FilePosition>, Me
     Ok(positions)
 }
 
-/// Appends where the files of a block stand, the first of which begins at this cell, and gives the cell after the last.
+/// Appends where the files of a block stand, the first of which begins at this cell, and gives the
+/// cell after the last.
 #[tactic(auto, using(crate::proofs::Indexed::files_listed))]
 fn add_positions(
     positions: &mut Seq<FilePosition>,

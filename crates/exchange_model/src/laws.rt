@@ -1,12 +1,14 @@
 // What the numbering of the cells and the opening store mean, said by clauses.
 ghost use Rattle.std.specs.Prelude.{◌≡◌, ℕ, ◌<◌, true, List, length, slice_get, Some};
-ghost use Rattle.exchange_model.specs.Cells.{IsCell, Placed, cell_count, cell_number, field_cell, mark_cell, placed_files, variable_cell};
+ghost use Rattle.exchange_model.specs.Cells.{IsCell, Placed, cell_count, cell_number, field_cell};
+ghost use Rattle.exchange_model.specs.Cells.{mark_cell, placed_files, variable_cell};
 ghost use Rattle.exchange_model.specs.Opening.{opening_store};
 ghost use Rattle.exchange_model.specs.declared.block.Block.{Block};
 ghost use Rattle.exchange_model.specs.declared.block.Variable.{Variable};
 ghost use Rattle.exchange_model.specs.declared.entry.Cell.{Cell};
 
-/// A cell's number is below the number of cells, each such number is that of a cell, and of one alone.
+/// A cell's number is below the number of cells, each such number is that of a cell, and of one
+/// alone.
 pub fn cells_are_numbered()
     ensures below { (blocks : List Block) (c : Cell) → IsCell blocks c
         → cell_number blocks c < cell_count blocks }
@@ -16,7 +18,8 @@ pub fn cells_are_numbered()
         → cell_number blocks c ≡ cell_number blocks d → c ≡ d }
 {}
 
-/// The opening store has one value for each cell: a variable or a field its INIT value, and a mark 0.
+/// The opening store has one value for each cell: a variable or a field its INIT value, and a mark
+/// 0.
 pub fn opening_has_each_cell()
     ensures each { (blocks : List Block) → length (opening_store blocks) ≡ cell_count blocks }
     ensures variable { (blocks : List Block) (b i : ℕ) (k : Block) (v : Variable)

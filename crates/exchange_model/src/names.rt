@@ -6,7 +6,8 @@ use crate::exchange::Exchange;
 use plex_num::{Memory, Seq};
 
 impl Exchange {
-    /// Appends `SIGNAL BLOCK` of an entry by its number, counted from 0; nothing where there is none of this number.
+    /// Appends `SIGNAL BLOCK` of an entry by its number, counted from 0; nothing where there is
+    /// none of this number.
     pub fn add_entry(&self, text: &mut Seq<u8>, number: usize) -> Result<(), Memory>
         ensures { OnOk result (text.new ≡ text.old ++ name_of_entry self.now number) }
     {

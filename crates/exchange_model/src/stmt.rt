@@ -5,7 +5,8 @@ ghost use Rattle.exchange_model.specs.declared.stmt.StmtKind.{out-StmtKind};
 use crate::expr::{Cond, Expr, Rel};
 use plex_num::Seq;
 
-/// A statement: its number through all blocks, the line of its first token, from 1, and what it does.
+/// A statement: its number through all blocks, the line of its first token, from 1, and what it
+/// does.
 #[derive(Drop)]
 #[cycle(stmt)]
 pub struct Stmt {
@@ -14,8 +15,9 @@ pub struct Stmt {
     pub kind: StmtKind,
 }
 
-/// What a statement does. Temporaries, variables and labels are places in the lists of the block, files and signals are
-/// numbers through the exchange, and a field is a place in the list of its file.
+/// What a statement does. Temporaries, variables and labels are places in the lists of the block,
+/// files and signals are numbers through the exchange, and a field is a place in the list of its
+/// file.
 #[derive(Drop)]
 #[cycle(stmt)]
 pub enum StmtKind {
@@ -62,7 +64,8 @@ pub enum StmtKind {
         upto: Expr,
         body: Seq<Stmt>,
     },
-    /// The temporary gets the least record whose field stands so to the value, and the text goes on at the label.
+    /// The temporary gets the least record whose field stands so to the value, and the text goes on
+    /// at the label.
     ForFirst {
         temp: u8,
         file: u32,
@@ -71,8 +74,8 @@ pub enum StmtKind {
         value: Expr,
         label: u32,
     },
-    /// `to` is the receiver; in an exchange it is None exactly for an outside signal. `fresh` says that the job
-    /// begins a forlopp of its own.
+    /// `to` is the receiver; in an exchange it is None exactly for an outside signal. `fresh` says
+    /// that the job begins a forlopp of its own.
     Send {
         signal: u32,
         to: Option<Receiver>,
@@ -128,7 +131,8 @@ impl StmtKind {
     }
 }
 
-/// One choice of a CASE: the number, and the statements that are done where the value is that number.
+/// One choice of a CASE: the number, and the statements that are done where the value is that
+/// number.
 #[derive(Drop)]
 #[cycle(stmt)]
 pub struct When {
@@ -136,8 +140,8 @@ pub struct When {
     pub body: Seq<Stmt>,
 }
 
-/// To which block a signal goes: to that of a number, from 0, or to that whose reference a holder has when the signal is
-/// sent.
+/// To which block a signal goes: to that of a number, from 0, or to that whose reference a holder
+/// has when the signal is sent.
 #[derive(Clone, Copy, PartialEq, Eq)]
 pub enum Receiver {
     Block(u32),

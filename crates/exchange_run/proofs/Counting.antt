@@ -1,5 +1,6 @@
 -- Each job that retires counts once, and arrivals count none.
-use Rattle.std.proofs.Common.{◌≡◌, ℕ, zero, suc, ◌+◌, Bool, true, false, List, [], ◌∷◌, refl, ◌∙◌, if◌then◌else◌}
+use Rattle.std.proofs.Common.{◌≡◌, ℕ, zero, suc, ◌+◌, Bool, true, false, List, [], ◌∷◌, refl, ◌∙◌}
+use Rattle.std.proofs.Common.{if◌then◌else◌}
 use Rattle.job_types.specs.declared.chain.Held.{Held}
 use Rattle.job_types.specs.declared.job.JobStart.{JobStart}
 use Rattle.job_types.specs.declared.outbox.Sent.{Sent}
@@ -10,8 +11,10 @@ use Rattle.job_types.specs.declared.outcome.Outcome.{Outcome}
 use Rattle.job_types.specs.declared.outcome.Outcome.TheVariants.{Ended, Faulted}
 use Rattle.job_types.specs.Forlopps.{is_dead}
 use Rattle.exchange_model.specs.declared.exchange.Exchange.{Exchange}
-use Rattle.source_meaning.specs.Arrivals.{arrivals, arrivals_of, arrives, comes, forlopp_for, is_due}
-use Rattle.source_meaning.specs.Retirement.{all_delivered, delivered, delivered_to, keeps_chain, retires, with_outcome, with_sends}
+use Rattle.source_meaning.specs.Arrivals.{arrivals, arrivals_of, arrives, comes, forlopp_for}
+use Rattle.source_meaning.specs.Arrivals.{is_due}
+use Rattle.source_meaning.specs.Retirement.{all_delivered, delivered, delivered_to, keeps_chain}
+use Rattle.source_meaning.specs.Retirement.{retires, with_outcome, with_sends}
 use Rattle.source_meaning.specs.State.{Coming, State, has_stopped}
 use Rattle.run_books.proofs.Arriving.{noted}
 
@@ -49,7 +52,8 @@ comes_ended x l f s = by (is_dead s.dead f) refl
 lines_ended : (x : Exchange) (ls : List Coming) (s : State) → (arrivals_of x ls s).ended ≡ s.ended
 unfolding arrivals_of
 lines_ended x [] s = refl
-lines_ended x (l ∷ rest) s = by (is_due l s) (lines_ended x rest (arrives x l rest s) ∙ comes_ended x l (forlopp_for l.origin s) (noted l rest (forlopp_for l.origin s) s))
+lines_ended x (l ∷ rest) s = by (is_due l s) (lines_ended x rest (arrives x l rest s)
+    ∙ comes_ended x l (forlopp_for l.origin s) (noted l rest (forlopp_for l.origin s) s))
   where
     by : (b : Bool) → (arrivals_of x rest (arrives x l rest s)).ended ≡ s.ended → (if b then arrivals_of x rest (arrives x l rest s) else s).ended ≡ s.ended
     by true more = more

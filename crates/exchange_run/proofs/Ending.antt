@@ -1,5 +1,6 @@
 -- The first number of jobs after which the run is over, and the numbers before it.
-use Rattle.std.proofs.Common.{◌≡◌, ℕ, ◌+◌, ◌<◌, ◌≤◌, Bool, true, false, get_or, length, Option, Some, None, refl, sym, ap, ◌∙◌, arith, if◌then◌else◌}
+use Rattle.std.proofs.Common.{◌≡◌, ℕ, ◌+◌, ◌<◌, ◌≤◌, Bool, true, false, get_or, length, Option}
+use Rattle.std.proofs.Common.{Some, None, refl, sym, ap, ◌∙◌, arith, if◌then◌else◌}
 use Rattle.std.specs.Prelude.{is_some, nat_lt, unwrap_or}
 use Rattle.std.specs.List.{position_or_len, range_with_len}
 use Rattle.std.proofs.lemmas.Bool.{lt-ltb}
@@ -20,13 +21,17 @@ first_is p n m le none some =
     at : (k : ℕ) → k < m + 1 → get_or (range_with_len 0 (m + 1)) k 0 ≡ k
     at k lt = let g = get_or-range_with_len 0 (m + 1) k 0 lt in omega (arith, g)
 
-pub ends_at : (x : Exchange) (s : State) (limit n : ℕ) (e : Ending) → n ≤ limit → ((m : ℕ) → m < n → ending_at limit (after x s m) ≡ None) → ending_at limit (after x s n) ≡ Some e → jobs_at_end x limit s ≡ n
+pub ends_at : (x : Exchange) (s : State) (limit n : ℕ) (e : Ending) → n ≤ limit
+    → ((m : ℕ) → m < n → ending_at limit (after x s m) ≡ None) → ending_at limit (after x s n) ≡ Some e
+    → jobs_at_end x limit s ≡ n
 unfolding jobs_at_end
 ends_at x s limit n e le none some =
     let p : ℕ → Bool = λ k. is_some (ending_at limit (after x s k)) in
     let first = first_is p n limit le (λ k lt. ap is_some (none k lt)) (ap is_some some) in
     let long = length-range_with_len 0 (limit + 1) in
-    let within : nat_lt (position_or_len p (range_with_len 0 (limit + 1))) (length (range_with_len 0 (limit + 1))) ≡ true = lt-ltb (position_or_len p (range_with_len 0 (limit + 1))) (length (range_with_len 0 (limit + 1))) (omega (arith, first, long, le)) in
+    let within : nat_lt (position_or_len p (range_with_len 0 (limit + 1))) (length (range_with_len 0 (limit + 1)))
+    ≡ true = lt-ltb (position_or_len p (range_with_len 0 (limit + 1))) (length (range_with_len 0 (limit + 1)))
+    (omega (arith, first, long, le)) in
     ap (λ b. unwrap_or (if b then Some (position_or_len p (range_with_len 0 (limit + 1))) else None) limit) within ∙ first
 
 -- before that number it goes on
@@ -35,11 +40,17 @@ is_none_of : (o : Option Ending) → is_some o ≡ false → o ≡ None
 is_none_of None e = refl
 is_none_of (Some e) some = cc
 
--- a number below the first one that passes, or below the limit, is below both that one and what follows the limit
-below_first : (p : ℕ → Bool) (limit m : ℕ) → m < unwrap_or (if nat_lt (position_or_len p (range_with_len 0 (limit + 1))) (length (range_with_len 0 (limit + 1))) then Some (position_or_len p (range_with_len 0 (limit + 1))) else None) limit → (m < position_or_len p (range_with_len 0 (limit + 1))) × (m < limit + 1)
+-- a number below the first one that passes, or below the limit, is below both that one and what
+-- follows the limit
+below_first : (p : ℕ → Bool) (limit m : ℕ) → m
+    < unwrap_or (if nat_lt (position_or_len p (range_with_len 0 (limit + 1))) (length (range_with_len 0 (limit + 1)))
+    then Some (position_or_len p (range_with_len 0 (limit + 1))) else None) limit
+    → (m < position_or_len p (range_with_len 0 (limit + 1))) × (m < limit + 1)
 below_first p limit m lt = by (nat_lt (position_or_len p (range_with_len 0 (limit + 1))) (length (range_with_len 0 (limit + 1)))) refl lt
   where
-    by : (b : Bool) → nat_lt (position_or_len p (range_with_len 0 (limit + 1))) (length (range_with_len 0 (limit + 1))) ≡ b → m < unwrap_or (if b then Some (position_or_len p (range_with_len 0 (limit + 1))) else None) limit → (m < position_or_len p (range_with_len 0 (limit + 1))) × (m < limit + 1)
+    by : (b : Bool) → nat_lt (position_or_len p (range_with_len 0 (limit + 1))) (length (range_with_len 0 (limit + 1)))
+        ≡ b → m < unwrap_or (if b then Some (position_or_len p (range_with_len 0 (limit + 1))) else None) limit
+        → (m < position_or_len p (range_with_len 0 (limit + 1))) × (m < limit + 1)
     by true is less =
         let long = length-range_with_len 0 (limit + 1) in
         let short : position_or_len p (range_with_len 0 (limit + 1)) < length (range_with_len 0 (limit + 1)) = grind (arith, nat_tests) in

@@ -1,5 +1,6 @@
 -- A run that rests before its end: what it comes to from there is what it comes to.
-use Rattle.std.proofs.Common.{◌≡◌, ℕ, zero, suc, ◌+◌, ◌-◌, ◌<◌, ◌≤◌, Bool, true, false, List, Option, Some, None, refl, sym, ap, ◌∙◌, subst, arith}
+use Rattle.std.proofs.Common.{◌≡◌, ℕ, zero, suc, ◌+◌, ◌-◌, ◌<◌, ◌≤◌, Bool, true, false, List}
+use Rattle.std.proofs.Common.{Option, Some, None, refl, sym, ap, ◌∙◌, subst, arith}
 use Rattle.std.specs.Prelude.{nat_lt}
 use Rattle.std.specs.Option.{option_map_or}
 use Rattle.std.proofs.lemmas.Bool.Decides.{nat_tests}
@@ -8,7 +9,8 @@ use Rattle.exchange_model.specs.declared.exchange.Exchange.{Exchange}
 use Rattle.exchange_model.specs.Kept.{IsExchange}
 use Rattle.source_meaning.specs.Arrivals.{arrivals}
 use Rattle.source_meaning.specs.Job.{job}
-use Rattle.source_meaning.specs.SingleRun.{Ending, after, begun, end_state, ended_as, ending_at, jobs_at_end, next_start, turn}
+use Rattle.source_meaning.specs.SingleRun.{Ending, after, begun, end_state, ended_as, ending_at}
+use Rattle.source_meaning.specs.SingleRun.{jobs_at_end, next_start, turn}
 use Rattle.source_meaning.specs.State.{State, has_stopped}
 use Rattle.source_meaning.specs.Valid.{IsValid}
 use Rattle.order_laws.proofs.Arriving.{arrivals_idle, arrivals_settle, arrivals_stopped}
@@ -39,7 +41,9 @@ quiet_after x first (suc n) = by (next_start (after x first n)) (quiet_after x f
     s : State
     s = after x first n
 
-    by : (o : Option JobStart) → arrivals x s ≡ s → arrivals x (option_map_or (λ start. arrivals x (ended_as x start (job x start s.store) (begun s))) o s) ≡ option_map_or (λ start. arrivals x (ended_as x start (job x start s.store) (begun s))) o s
+    by : (o : Option JobStart) → arrivals x s ≡ s
+        → arrivals x (option_map_or (λ start. arrivals x (ended_as x start (job x start s.store) (begun s))) o s)
+        ≡ option_map_or (λ start. arrivals x (ended_as x start (job x start s.store) (begun s))) o s
     by None quiet = quiet
     by (Some start) quiet = quiet_again x (ended_as x start (job x start s.store) (begun s))
 
@@ -75,7 +79,8 @@ module _ (x : Exchange) (first : State) (limit n : ℕ) (goes : (m : ℕ) → m 
           ∙ before_end x there limit (m - n) left
 
   same_end : (e : Ending) → ending_at limit (end_state x limit there) ≡ Some e → jobs_at_end x limit first ≡ rest + n
-  same_end e is = ends_at x first limit (rest + n) e (at_most x first limit (rest + n) all_go) all_go (ap (ending_at limit) (sym (after_both x first n rest)) ∙ is)
+  same_end e is = ends_at x first limit (rest + n) e (at_most x first limit (rest + n) all_go) all_go
+      (ap (ending_at limit) (sym (after_both x first n rest)) ∙ is)
 
   -- what it comes to from there is what it comes to
   pub rests : (s : State) (words : List ℕ) (e : Ending) → RunsTo x there limit s words e → RunsTo x first limit s words e
@@ -87,7 +92,9 @@ module _ (x : Exchange) (first : State) (limit n : ℕ) (goes : (m : ℕ) → m 
       }
 
 -- where a run rests it is on its way
-pub goes_rests : {W : Type 0} {tell : W → Exchange → ℕ → JobStart → JobDone → W} {x : Exchange} {first : State} {limit : ℕ} {old : W} {b : Account} {words : List ℕ} {w : W} → IsExchange x → IsValid x first → Goes tell x first limit old b words w → IsOnTheWay x first limit (record { books = b; words = words })
+pub goes_rests : {W : Type 0} {tell : W → Exchange → ℕ → JobStart → JobDone → W} {x : Exchange} {first : State}
+    {limit : ℕ} {old : W} {b : Account} {words : List ℕ} {w : W} → IsExchange x → IsValid x first
+    → Goes tell x first limit old b words w → IsOnTheWay x first limit (record { books = b; words = words })
 goes_rests {x = x} {first = first} {limit = limit} {b = b} {words = words} kept fit g =
     let s = g.stands in
     record {
@@ -98,10 +105,12 @@ goes_rests {x = x} {first = first} {limit = limit} {b = b} {words = words} kept 
 
 -- a run goes on from where it stands on its way: the run before it may end there, or rest again
 
-pub way_over : {x : Exchange} {first : State} {limit : ℕ} {run : Standing} {end : Ended} → IsOnTheWay x first limit run → IsEndOf x (state_of run) run.books.limit end → IsEndOf x first limit end
+pub way_over : {x : Exchange} {first : State} {limit : ℕ} {run : Standing} {end : Ended} → IsOnTheWay x first limit run
+    → IsEndOf x (state_of run) run.books.limit end → IsEndOf x first limit end
 way_over {end = end} way over = record { runs = way.leads end.books.state end.words (ending_of end.ending) over.runs; nobody = over.nobody }
 
-pub way_more : {x : Exchange} {first : State} {limit : ℕ} {run next : Standing} → IsOnTheWay x first limit run → IsOnTheWay x (state_of run) run.books.limit next → IsOnTheWay x first limit next
+pub way_more : {x : Exchange} {first : State} {limit : ℕ} {run next : Standing} → IsOnTheWay x first limit run
+    → IsOnTheWay x (state_of run) run.books.limit next → IsOnTheWay x first limit next
 way_more way more = record { limited = more.limited ∙ way.limited; may = more.may; leads = λ s words e runs. way.leads s words e (more.leads s words e runs) }
 
 -- a run stands on its own way

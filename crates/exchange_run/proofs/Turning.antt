@@ -1,5 +1,7 @@
 -- From turn to turn of the single run.
-use Rattle.std.proofs.Common.{◌≡◌, ⊎_elim, ℕ, zero, suc, ◌+◌, ◌-◌, ◌<◌, ◌≤◌, Bool, true, false, List, length, Option, Some, None, refl, sym, ap, ◌∙◌, subst, arith, if◌then◌else◌}
+use Rattle.std.proofs.Common.{◌≡◌, ⊎_elim, ℕ, zero, suc, ◌+◌, ◌-◌, ◌<◌, ◌≤◌, Bool, true, false}
+use Rattle.std.proofs.Common.{List, length, Option, Some, None, refl, sym, ap, ◌∙◌, subst, arith}
+use Rattle.std.proofs.Common.{if◌then◌else◌}
 use Rattle.std.proofs.lemmas.Bool.{cases_eq, lt-ltb}
 use Rattle.std.proofs.lemmas.Bool.Decides.{nat_tests}
 use Rattle.std.specs.Prelude.{is_none, nat_le}
@@ -15,7 +17,8 @@ use Rattle.source_meaning.specs.Arrivals.{arrivals, is_quiet}
 use Rattle.source_meaning.specs.Job.{job}
 use Rattle.source_meaning.specs.Retirement.{retires}
 use Rattle.source_meaning.specs.SingleRun as single
-use Rattle.source_meaning.specs.SingleRun.{Ending, after, begun, ended_as, ending_at, jobs_at_end, next_start, start_of, turn}
+use Rattle.source_meaning.specs.SingleRun.{Ending, after, begun, ended_as, ending_at, jobs_at_end}
+use Rattle.source_meaning.specs.SingleRun.{next_start, start_of, turn}
 use Rattle.source_meaning.specs.State.{State, has_stopped}
 use Rattle.source_meaning.specs.Valid.{IsValid, MayBe}
 use Rattle.source_meaning.proofs.Agreeing.{job_length}
@@ -26,7 +29,8 @@ use Rattle.run_books.specs.Retired.{HasRetired, retired_world}
 use Rattle.run_books.specs.Stores.{MayStore}
 use Rattle.run_books.specs.Events.{ending_of}
 use Rattle.run_books.specs.declared.event.Ending.{Ending as EndOf}
-use Rattle.exchange_run.specs.Runs.{HasTurn, IsEndOf, IsTurn, MayRun, RunStands, left_by, told_next, told_of, words_after}
+use Rattle.exchange_run.specs.Runs.{HasTurn, IsEndOf, IsTurn, MayRun, RunStands, left_by, told_next}
+use Rattle.exchange_run.specs.Runs.{told_of, words_after}
 use Rattle.run_books.proofs.Arriving.{arrivals_with}
 use Rattle.run_books.proofs.Cells.{may_store, retired_inside}
 use Rattle.exchange_run.proofs.Counting.{arrivals_ended, retired_ended}
@@ -43,15 +47,20 @@ pub record GoesOn (limit : ℕ) (s : State) : Type 0 where
 pub goes_on : (limit : ℕ) (s : State) → ending_at limit s ≡ None → GoesOn limit s
 goes_on limit s none = by_stop (has_stopped s) refl none
   where
-    by_few : (b : Bool) → nat_le limit s.ended ≡ b → has_stopped s ≡ false → is_quiet s.waiting ≡ false → (if b then Some single.Limited else None) ≡ None → GoesOn limit s
+    by_few : (b : Bool) → nat_le limit s.ended ≡ b → has_stopped s ≡ false → is_quiet s.waiting ≡ false
+        → (if b then Some single.Limited else None) ≡ None → GoesOn limit s
     by_few true le runs waits e = cc
     by_few false le runs waits e = record { runs = runs; waits = waits; few = grind (arith, nat_tests, le) }
 
-    by_quiet : (b : Bool) → is_quiet s.waiting ≡ b → has_stopped s ≡ false → (if b then Some single.Finished else (if nat_le limit s.ended then Some single.Limited else None)) ≡ None → GoesOn limit s
+    by_quiet : (b : Bool) → is_quiet s.waiting ≡ b → has_stopped s ≡ false
+        → (if b then Some single.Finished else (if nat_le limit s.ended then Some single.Limited else None)) ≡ None
+        → GoesOn limit s
     by_quiet true quiet runs e = cc
     by_quiet false quiet runs e = by_few (nat_le limit s.ended) refl runs quiet e
 
-    by_stop : (b : Bool) → has_stopped s ≡ b → (if b then Some single.Restarted else (if is_quiet s.waiting then Some single.Finished else (if nat_le limit s.ended then Some single.Limited else None))) ≡ None → GoesOn limit s
+    by_stop : (b : Bool) → has_stopped s ≡ b → (if b then Some single.Restarted
+        else (if is_quiet s.waiting then Some single.Finished
+        else (if nat_le limit s.ended then Some single.Limited else None))) ≡ None → GoesOn limit s
     by_stop true stopped e = cc
     by_stop false stopped e = by_quiet (is_quiet s.waiting) refl stopped e
 
@@ -68,17 +77,20 @@ some_start s limit goes =
     let g = goes_on limit s goes in
     by (pick s.waiting) g.waits g.runs
   where
-    by : (o : Option Job) → is_none o ≡ false → has_stopped s ≡ false → (start : JobStart) × ((if has_stopped s then None else option_map (λ j. start_of j s) o) ≡ Some start)
+    by : (o : Option Job) → is_none o ≡ false → has_stopped s ≡ false
+        → (start : JobStart) × ((if has_stopped s then None else option_map (λ j. start_of j s) o) ≡ Some start)
     by None waits runs = cc
     by (Some j) waits runs = (start_of j s, ap (λ t. if t then None else Some (start_of j s)) runs)
 
 -- ## A turn
 
-pub turn_starts : (b : Account) (start : JobStart) → Some start ≡ upcoming b → b.running ≡ 0 → ending_at b.limit b.state ≡ None → next_start b.state ≡ Some start
+pub turn_starts : (b : Account) (start : JobStart) → Some start ≡ upcoming b → b.running ≡ 0
+    → ending_at b.limit b.state ≡ None → next_start b.state ≡ Some start
 turn_starts b start is none goes = sym (is ∙ upcoming_is b none goes)
 
 -- the start may run on the stored words
-pub may_run : (x : Exchange) (b : Account) (start : JobStart) (words : List ℕ) → Some start ≡ upcoming b → b.running ≡ 0 → ending_at b.limit b.state ≡ None → IsValid x (with_words b.state words) → MayRun x start words
+pub may_run : (x : Exchange) (b : Account) (start : JobStart) (words : List ℕ) → Some start ≡ upcoming b → b.running ≡ 0
+    → ending_at b.limit b.state ≡ None → IsValid x (with_words b.state words) → MayRun x start words
 may_run x b start words is none goes valid = record {
   state = with_words b.state words;
   valid = valid;
@@ -87,19 +99,26 @@ may_run x b start words is none goes valid = record {
 }
 
 -- its retirement stores to cells alone
-pub may_retire : (x : Exchange) (b begun_books : Account) (start : JobStart) (done : JobDone) (words now : List ℕ) → IsExchange x → Some start ≡ upcoming b → b.running ≡ 0 → ending_at b.limit b.state ≡ None → IsValid x (with_words b.state words) → begun_books ≡ after_start (Some start) b → done ≡ left_by x start words → now ≡ words_after x start words → MayStore (is_word_of now) (retired_world x start done begun_books.state now).trace
+pub may_retire : (x : Exchange) (b begun_books : Account) (start : JobStart) (done : JobDone) (words now : List ℕ)
+    → IsExchange x → Some start ≡ upcoming b → b.running ≡ 0 → ending_at b.limit b.state ≡ None
+    → IsValid x (with_words b.state words) → begun_books ≡ after_start (Some start) b → done ≡ left_by x start words
+    → now ≡ words_after x start words → MayStore (is_word_of now)
+    (retired_world x start done begun_books.state now).trace
 may_retire x b begun_books start done words now kept is none goes valid begins done_is now_is =
     let s = with_words b.state words in
     let fits = start_fits x s start valid (turn_starts b start is none goes) in
     let few = kept.limited.cells in
     let long : length (words_after x start words) ≡ length words = job_length x start words in
     let whole : length now ≡ x.cells = ap length now_is ∙ long ∙ valid.store.whole in
-    let here = may_store x now (retired_world x start (left_by x start words) (begun b.state) now).trace whole (omega (arith, few)) (retired_inside x kept s (begun b.state) start now valid fits refl) in
+    let here = may_store x now (retired_world x start (left_by x start words) (begun b.state) now).trace whole
+    (omega (arith, few)) (retired_inside x kept s (begun b.state) start now valid fits refl) in
     subst (λ d. MayStore (is_word_of now) (retired_world x start d begun_books.state now).trace) (sym done_is)
     (subst (λ (a : Account). MayStore (is_word_of now) (retired_world x start (left_by x start words) a.state now).trace) (sym begins) here)
 
 -- its forlopp is live, or it has none
-pub may_be : (x : Exchange) (b begun_books : Account) (start : JobStart) (words : List ℕ) → Some start ≡ upcoming b → b.running ≡ 0 → ending_at b.limit b.state ≡ None → IsValid x (with_words b.state words) → begun_books ≡ after_start (Some start) b → MayBe begun_books.state start.job.forlopp
+pub may_be : (x : Exchange) (b begun_books : Account) (start : JobStart) (words : List ℕ) → Some start ≡ upcoming b
+    → b.running ≡ 0 → ending_at b.limit b.state ≡ None → IsValid x (with_words b.state words)
+    → begun_books ≡ after_start (Some start) b → MayBe begun_books.state start.job.forlopp
 may_be x b begun_books start words is none goes valid begins =
     let s = with_words b.state words in
     let fits = start_fits x s start valid (turn_starts b start is none goes) in
@@ -110,10 +129,16 @@ may_be x b begun_books start words is none goes valid begins =
     by (suc n) may = record { drawn = may.drawn; before = may.before; alive = may.alive }
 
 -- the state after a turn
-pub turn_more : (x : Exchange) (b begun_books next last : Account) (start : JobStart) (done : JobDone) (words now after_words : List ℕ) → Some start ≡ upcoming b → b.running ≡ 0 → ending_at b.limit b.state ≡ None → begun_books ≡ after_start (Some start) b → done ≡ left_by x start words → now ≡ words_after x start words → with_words next.state after_words ≡ retires x start done (with_words begun_books.state now) → last ≡ record next { state = arrivals x next.state } → with_words last.state after_words ≡ turn x (with_words b.state words)
+pub turn_more : (x : Exchange) (b begun_books next last : Account) (start : JobStart) (done : JobDone)
+    (words now after_words : List ℕ) → Some start ≡ upcoming b → b.running ≡ 0 → ending_at b.limit b.state ≡ None
+    → begun_books ≡ after_start (Some start) b → done ≡ left_by x start words → now ≡ words_after x start words
+    → with_words next.state after_words ≡ retires x start done (with_words begun_books.state now)
+    → last ≡ record next { state = arrivals x next.state }
+    → with_words last.state after_words ≡ turn x (with_words b.state words)
 turn_more x b begun_books next last start done words now after_words is none goes begins done_is now_is retired arrived =
     let s = with_words b.state words in
-    let same : retires x start done (with_words begun_books.state now) ≡ retires x start (left_by x start words) (with_words (begun b.state) (words_after x start words)) =
+    let same : retires x start done (with_words begun_books.state now)
+    ≡ retires x start (left_by x start words) (with_words (begun b.state) (words_after x start words)) =
     λ i. retires x start (done_is i) (with_words (begins i).state (now_is i)) in
     ap (λ (a : Account). with_words a.state after_words) arrived
     ∙ sym (arrivals_with x next.state after_words)
@@ -132,8 +157,13 @@ turn_ended x s limit goes =
     ∙ retired_ended x start done u
 
 -- a job that has run and retired, and what is due has arrived
-pub turned : {x : Exchange} {b begun_books next last : Account} {start : JobStart} {done : JobDone} {words now after_words : List ℕ} {told now_told : Option (List Touch)} → HasTurn x b words → Some start ≡ upcoming b → begun_books ≡ after_start (Some start) b → done ≡ left_by x start words → now ≡ words_after x start words → HasRetired x start done begun_books next now after_words told now_told → last ≡ record next { state = arrivals x next.state } → IsTurn x b last words after_words
-turned {x = x} {b = b} {begun_books = begun_books} {next = next} {last = last} {start = start} {done = done} {words = words} {now = now} {after_words = after_words} has is begins done_is now_is retired arrived =
+pub turned : {x : Exchange} {b begun_books next last : Account} {start : JobStart} {done : JobDone}
+    {words now after_words : List ℕ} {told now_told : Option (List Touch)} → HasTurn x b words → Some start ≡ upcoming b
+    → begun_books ≡ after_start (Some start) b → done ≡ left_by x start words → now ≡ words_after x start words
+    → HasRetired x start done begun_books next now after_words told now_told
+    → last ≡ record next { state = arrivals x next.state } → IsTurn x b last words after_words
+turned {x = x} {b = b} {begun_books = begun_books} {next = next} {last = last} {start = start} {done = done}
+    {words = words} {now = now} {after_words = after_words} has is begins done_is now_is retired arrived =
     let none = has.nobody in
     let left = retired.running in
     record {
@@ -143,7 +173,10 @@ turned {x = x} {b = b} {begun_books = begun_books} {next = next} {last = last} {
     }
 
 -- a watcher that is told of the job of a turn is told of the next one
-pub told_turn : {W : Type 0} (tell : W → Exchange → ℕ → JobStart → JobDone → W) {x : Exchange} {b next : Account} {words now : List ℕ} {start : JobStart} {done : JobDone} {number : ℕ} {w v : W} → HasTurn x b words → Some start ≡ upcoming b → IsTurn x b next words now → number ≡ next.state.ended → done ≡ left_by x start words → v ≡ tell w x number start done → v ≡ told_next tell x (with_words b.state words) w
+pub told_turn : {W : Type 0} (tell : W → Exchange → ℕ → JobStart → JobDone → W) {x : Exchange} {b next : Account}
+    {words now : List ℕ} {start : JobStart} {done : JobDone} {number : ℕ} {w v : W} → HasTurn x b words
+    → Some start ≡ upcoming b → IsTurn x b next words now → number ≡ next.state.ended → done ≡ left_by x start words
+    → v ≡ tell w x number start done → v ≡ told_next tell x (with_words b.state words) w
 told_turn tell {x = x} {b = b} {words = words} {start = start} {number = number} {w = w} has is turn number_is left told =
     let count : number ≡ b.state.ended + 1 = number_is ∙ ap (λ (s : State). s.ended) turn.state ∙ turn_ended x (with_words b.state words) b.limit has.goes_on in
     told ∙ (λ i. tell w x (count i) start (left i))
@@ -168,7 +201,9 @@ at_most x first limit (suc n) goes =
     omega (arith, few, ended)
 
 -- what is due has arrived
-pub stands_begin : (x : Exchange) (before b : Account) (words : List ℕ) → before.running ≡ 0 → b ≡ record before { state = arrivals x before.state } → RunStands x (with_words before.state words) before.limit 0 b words
+pub stands_begin : (x : Exchange) (before b : Account) (words : List ℕ) → before.running ≡ 0
+    → b ≡ record before { state = arrivals x before.state }
+    → RunStands x (with_words before.state words) before.limit 0 b words
 unfolding after
 stands_begin x before b words none is = record {
   state = ap (λ (a : Account). with_words a.state words) is ∙ sym (arrivals_with x before.state words);
@@ -177,20 +212,26 @@ stands_begin x before b words none is = record {
   goes_on = λ m lt. absurd (omega arith);
 }
 
-pub stands_valid : (x : Exchange) → IsExchange x → (first : State) (limit : ℕ) → IsValid x first → (n : ℕ) (b : Account) (words : List ℕ) → RunStands x first limit n b words → IsValid x (with_words b.state words)
+pub stands_valid : (x : Exchange) → IsExchange x → (first : State) (limit : ℕ) → IsValid x first
+    → (n : ℕ) (b : Account) (words : List ℕ) → RunStands x first limit n b words → IsValid x (with_words b.state words)
 stands_valid x kept first limit fit n b words g = subst (IsValid x) (sym g.state) (after_valid x kept first n fit)
 
 -- the run stands after some number of jobs, and the watcher has been told of these
-pub record Goes {W : Type 0} (tell : W → Exchange → ℕ → JobStart → JobDone → W) (x : Exchange) (first : State) (limit : ℕ) (old : W) (b : Account) (words : List ℕ) (w : W) : Type 0 where
+pub record Goes {W : Type 0} (tell : W → Exchange → ℕ → JobStart → JobDone → W) (x : Exchange) (first : State)
+    (limit : ℕ) (old : W) (b : Account) (words : List ℕ) (w : W) : Type 0 where
   pub count : ℕ
   pub stands : RunStands x first limit count b words
   pub told : w ≡ told_of tell x first count old
 
-pub goes_begin : {W : Type 0} (tell : W → Exchange → ℕ → JobStart → JobDone → W) (x : Exchange) (before b : Account) (words : List ℕ) (w : W) → before.running ≡ 0 → b ≡ record before { state = arrivals x before.state } → Goes tell x (with_words before.state words) before.limit w b words w
+pub goes_begin : {W : Type 0} (tell : W → Exchange → ℕ → JobStart → JobDone → W) (x : Exchange) (before b : Account)
+    (words : List ℕ) (w : W) → before.running ≡ 0 → b ≡ record before { state = arrivals x before.state }
+    → Goes tell x (with_words before.state words) before.limit w b words w
 unfolding told_of
 goes_begin tell x before b words w none is = record { count = 0; stands = stands_begin x before b words none is; told = refl }
 
-module _ {W : Type 0} {tell : W → Exchange → ℕ → JobStart → JobDone → W} {x : Exchange} {first : State} {limit : ℕ} {old : W} {b : Account} {words : List ℕ} {w : W} (kept : IsExchange x) (fit : IsValid x first) (g : Goes tell x first limit old b words w) where
+module _ {W : Type 0} {tell : W → Exchange → ℕ → JobStart → JobDone → W} {x : Exchange} {first : State} {limit : ℕ}
+    {old : W} {b : Account} {words : List ℕ} {w : W} (kept : IsExchange x) (fit : IsValid x first)
+    (g : Goes tell x first limit old b words w) where
   here : RunStands x first limit g.count b words
   here = g.stands
 
@@ -201,7 +242,8 @@ module _ {W : Type 0} {tell : W → Exchange → ℕ → JobStart → JobDone �
   pub goes_turn : ending_at b.limit b.state ≡ None → HasTurn x b words
   goes_turn goes = record { nobody = here.nobody; goes_on = goes; valid = stands_valid x kept first limit fit g.count b words here }
 
-  pub goes_more : {next : Account} {now : List ℕ} {v : W} → ending_at b.limit b.state ≡ None → IsTurn x b next words now → v ≡ told_next tell x (with_words b.state words) w → Goes tell x first limit old next now v
+  pub goes_more : {next : Account} {now : List ℕ} {v : W} → ending_at b.limit b.state ≡ None → IsTurn x b next words now
+      → v ≡ told_next tell x (with_words b.state words) w → Goes tell x first limit old next now v
   unfolding after told_of
   goes_more goes turned told = record {
     count = suc g.count;
@@ -216,7 +258,8 @@ module _ {W : Type 0} {tell : W → Exchange → ℕ → JobStart → JobDone �
     told = told ∙ (λ i. told_next tell x (here.state i) (g.told i));
   }
 
-  pub goes_fewer : {next : Account} {now : List ℕ} → ending_at b.limit b.state ≡ None → IsTurn x b next words now → limit - next.state.ended < limit - b.state.ended
+  pub goes_fewer : {next : Account} {now : List ℕ} → ending_at b.limit b.state ≡ None → IsTurn x b next words now
+      → limit - next.state.ended < limit - b.state.ended
   goes_fewer {next = next} goes turned =
       let few = (goes_on b.limit b.state goes).few in
       let same = here.limited in
@@ -229,7 +272,10 @@ module _ {W : Type 0} {tell : W → Exchange → ℕ → JobStart → JobDone �
 
   pub goes_over : (e : EndOf) → Some (ending_of e) ≡ ending_at b.limit b.state → IsEndOf x first limit (record { books = b; words = words; ending = e })
   goes_over e is = record {
-    runs = record { state = here.state ∙ ap (after x first) (sym (last_turn is)); ends = ap (λ k. ending_at limit (after x first k)) (last_turn is) ∙ at_limit (sym is) };
+    runs = record {
+      state = here.state ∙ ap (after x first) (sym (last_turn is));
+      ends = ap (λ k. ending_at limit (after x first k)) (last_turn is) ∙ at_limit (sym is);
+    };
     nobody = here.nobody;
   }
 

@@ -31,11 +31,14 @@ abbrev pub words_after : Exchange → JobStart → List ℕ → List ℕ
 words_after x start store = (job x start store).world.store
 
 -- what a watcher is once it has been told of the next job of a state, if there is one
-abbrev pub told_next : {W : Type 0} → (W → Exchange → ℕ → JobStart → JobDone → W) → Exchange → State → W → W
-told_next tell x s w = option_map_or (λ start. tell w x (s.ended + 1) start (left_by x start s.store)) (next_start s) w
+abbrev pub told_next : {W : Type 0} → (W → Exchange → ℕ → JobStart → JobDone → W) → Exchange → State
+    → W → W
+told_next tell x s w =
+    option_map_or (λ start. tell w x (s.ended + 1) start (left_by x start s.store)) (next_start s) w
 
 -- what it is once it has been told of the first jobs, so many, of the single run from a state
-unfoldable pub told_of : {W : Type 0} → (W → Exchange → ℕ → JobStart → JobDone → W) → Exchange → State → ℕ → W → W
+unfoldable pub told_of : {W : Type 0} → (W → Exchange → ℕ → JobStart → JobDone → W) → Exchange
+    → State → ℕ → W → W
 told_of tell x first zero w = w
 told_of tell x first (suc n) w = told_next tell x (after x first n) (told_of tell x first n w)
 
@@ -60,15 +63,19 @@ pub record IsTurn (x : Exchange) (old new : Account) (words now : List ℕ) : Ty
   pub nobody : new.running ≡ 0
   pub limit : new.limit ≡ old.limit
 
--- the books and the words stand for the single run from this state after so many jobs, nobody runs, and the run was not over before
-pub record RunStands (x : Exchange) (first : State) (limit n : ℕ) (b : Account) (words : List ℕ) : Type 0 where
+-- the books and the words stand for the single run from this state after so many jobs, nobody runs,
+-- and the run was not over before
+pub record RunStands (x : Exchange) (first : State) (limit n : ℕ) (b : Account)
+    (words : List ℕ) : Type 0 where
   pub state : with_words b.state words ≡ after x first n
   pub nobody : b.running ≡ 0
   pub limited : b.limit ≡ limit
   pub goes_on : (m : ℕ) → m < n → ending_at limit (after x first m) ≡ None
 
--- the books and the words stand for the end of the single run from this state, and this is how it ends
-pub record RunsTo (x : Exchange) (first : State) (limit : ℕ) (s : State) (words : List ℕ) (ending : single.Ending) : Type 0 where
+-- the books and the words stand for the end of the single run from this state, and this is how it
+-- ends
+pub record RunsTo (x : Exchange) (first : State) (limit : ℕ) (s : State) (words : List ℕ)
+    (ending : single.Ending) : Type 0 where
   pub state : with_words s words ≡ end_state x limit first
   pub ends : ending_at limit (end_state x limit first) ≡ Some ending
 

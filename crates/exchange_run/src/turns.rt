@@ -7,7 +7,8 @@ ghost use Rattle.source_meaning.specs.Valid.{LinesFit};
 ghost use Rattle.run_books.specs.Accounts.{with_words};
 ghost use Rattle.run_books.specs.Lines.{coming_of};
 ghost use Rattle.exchange_run.specs.Comes.{HasCome, IsOver, IsTold};
-ghost use Rattle.exchange_run.specs.Runs.{HasTurn, IsEndOf, IsTurn, MayGoOn, state_of, told_next, told_of};
+ghost use Rattle.exchange_run.specs.Runs.{HasTurn, IsEndOf, IsTurn, MayGoOn, state_of, told_next};
+ghost use Rattle.exchange_run.specs.Runs.{told_of};
 
 use crate::runner::Runner;
 use crate::watcher::Watcher;

@@ -1,5 +1,6 @@
 -- The code of a condition leaves its value, or comes to its fault.
-use Rattle.std.proofs.Common.{◌≡◌, ℕ, ◌+◌, ◌^◌, ◌<◌, ◌≤◌, Bool, true, false, List, [], ◌∷◌, ◌++◌, length, map, refl, sym, ap, ◌∙◌, subst, arith, length-append}
+use Rattle.std.proofs.Common.{◌≡◌, ℕ, ◌+◌, ◌^◌, ◌<◌, ◌≤◌, Bool, true, false, List, [], ◌∷◌, ◌++◌}
+use Rattle.std.proofs.Common.{length, map, refl, sym, ap, ◌∙◌, subst, arith, length-append}
 use Rattle.std.proofs.Math.ListN.{length-set}
 use Rattle.std.proofs.lemmas.List.{get_or-set_other, get_or-set_same}
 use Rattle.std.specs.Prelude.{slice_index, slice_set, ◌&&◌, ◌||◌, ◌≢◌}
@@ -10,19 +11,23 @@ use Rattle.exchange_model.specs.declared.expr.Expr.{Expr}
 use Rattle.exchange_model.specs.declared.expr.Cond.{Cond}
 use Rattle.exchange_model.specs.declared.expr.Relation.{Relation}
 use Rattle.exchange_model.specs.declared.expr.Rel.{Rel}
-use Rattle.exchange_model.specs.declared.expr.Rel.TheVariants.{Equal, Unequal, Below, AtMost, Above, AtLeast}
+use Rattle.exchange_model.specs.declared.expr.Rel.TheVariants.{Equal, Unequal, Below, AtMost, Above}
+use Rattle.exchange_model.specs.declared.expr.Rel.TheVariants.{AtLeast}
 use Rattle.exchange_model.specs.Inside.{bracket_depth, relation_exprs, joined, cond_exprs}
 use Rattle.exchange_model.specs.Fits.{Scope, ExprFits, ExprsFit}
-use Rattle.source_meaning.specs.Value.{Got, Gives, Fails, Sight, after_loads, with_value, stands, expr_value, relation_value, all_value, any_value, cond_value}
+use Rattle.source_meaning.specs.Value.{Got, Gives, Fails, Sight, after_loads, with_value, stands}
+use Rattle.source_meaning.specs.Value.{expr_value, relation_value, all_value, any_value, cond_value}
 use Rattle.job_types.specs.declared.touch.Touch.{Touch}
 use Rattle.job_types.specs.Truth.{one_if, is_set}
 use Rattle.machine_meaning.specs.Machine.{Machine, HasRoom, machine_step, reg, sets, made_one, next}
-use Rattle.expr_code.specs.Code.{rel_op, and_local, or_local, expr_code, relation_code, and_code, all_code, or_code, any_code, cond_code}
+use Rattle.expr_code.specs.Code.{rel_op, and_local, or_local, expr_code, relation_code, and_code}
+use Rattle.expr_code.specs.Code.{all_code, or_code, any_code, cond_code}
 use Rattle.expr_code.specs.Sites.{IsLimited}
 use Rattle.expr_code.specs.Runs.{HasAt, site_of, Agrees, Calc, Computes}
 use Rattle.plex_num.proofs.Lists.{all_left, all_right, all_both}
 use Rattle.expr_code.proofs.Places.{has_front, has_back}
-use Rattle.expr_code.proofs.Runs.{agrees_on, after_none, extend, computes_fewer, bind_runs, then_runs, nothing, StandsAt, one_step, op_sets_plain, seen_none}
+use Rattle.expr_code.proofs.Runs.{agrees_on, after_none, extend, computes_fewer, bind_runs}
+use Rattle.expr_code.proofs.Runs.{then_runs, nothing, StandsAt, one_step, op_sets_plain, seen_none}
 use Rattle.expr_code.proofs.ExprRuns.{stands as runs_at, expr_runs}
 
 one_if_small : (b : Bool) → one_if b < 2 ^ 32
@@ -77,17 +82,21 @@ relation_bit r s =
 all_bit : (rs : List Relation) (before : ℕ) (s : Sight) → IsBit before → GivesBit (all_value rs before s)
 all_bit [] before s h = h
 all_bit (r ∷ rs) before s h =
-    then_bit (relation_value r s) (λ v. all_value rs (one_if (is_set before && is_set v)) s) (λ v. all_bit rs (one_if (is_set before && is_set v)) s (one_if_bit (is_set before && is_set v)))
+    then_bit (relation_value r s) (λ v. all_value rs (one_if (is_set before && is_set v)) s)
+    (λ v. all_bit rs (one_if (is_set before && is_set v)) s (one_if_bit (is_set before && is_set v)))
 
 first_all : (r : Relation) (rs : List Relation) (s : Sight) → all_value (r ∷ rs) 1 s ≡ with_value (relation_value r s) (λ v. all_value rs v s)
-first_all r rs s = with_bit (relation_value r s) (λ v. all_value rs (one_if (is_set 1 && is_set v)) s) (λ v. all_value rs v s) (relation_bit r s) (λ v bit. ap (λ n. all_value rs n s) bit)
+first_all r rs s = with_bit (relation_value r s) (λ v. all_value rs (one_if (is_set 1 && is_set v)) s)
+    (λ v. all_value rs v s) (relation_bit r s) (λ v bit. ap (λ n. all_value rs n s) bit)
 
 first_any : (rs : List Relation) (rss : List (List Relation)) (s : Sight) → any_value (rs ∷ rss) 0 s ≡ with_value (all_value rs 1 s) (λ v. any_value rss v s)
-first_any rs rss s = with_bit (all_value rs 1 s) (λ v. any_value rss (one_if (is_set 0 || is_set v)) s) (λ v. any_value rss v s) (all_bit rs 1 s refl) (λ v bit. ap (λ n. any_value rss n s) bit)
+first_any rs rss s = with_bit (all_value rs 1 s) (λ v. any_value rss (one_if (is_set 0 || is_set v)) s)
+    (λ v. any_value rss v s) (all_bit rs 1 s refl) (λ v bit. ap (λ n. any_value rss n s) bit)
 
 -- ## What the code does
 
-rel_act : (rel : Rel) (m : Machine) → machine_step (rel_op rel 0 1) m ≡ record { run = sets 0 (one_if (stands rel (reg m.run 0) (reg m.run 1))) (made_one m.run); world = m.world }
+rel_act : (rel : Rel) (m : Machine) → machine_step (rel_op rel 0 1) m
+    ≡ record { run = sets 0 (one_if (stands rel (reg m.run 0) (reg m.run 1))) (made_one m.run); world = m.world }
 rel_act Equal m = refl
 rel_act Unequal m = refl
 rel_act Below m = refl
@@ -105,7 +114,10 @@ rel_room AtLeast m = tt
 
 module _ (code : List Op) where
   -- a register goes into a local, and the rest goes on
-  local_then : (m : Machine) (pc pc2 i r r2 l2 v : ℕ) (got : Got) → StandsAt code m pc (Stt i r) → reg m.run r ≡ v → length m.run.locals ≡ 50 → i < 50 → l2 ≤ i → v < 2 ^ 32 → ((n : Machine) → Calc code m n (pc + 1) [] r2 i → reg n.run r ≡ v → slice_index n.run.locals i ≡ v → Computes code n pc2 r2 l2 got) → Computes code m pc2 r2 l2 got
+  local_then : (m : Machine) (pc pc2 i r r2 l2 v : ℕ) (got : Got) → StandsAt code m pc (Stt i r) → reg m.run r ≡ v
+      → length m.run.locals ≡ 50 → i < 50 → l2 ≤ i → v < 2 ^ 32
+      → ((n : Machine) → Calc code m n (pc + 1) [] r2 i → reg n.run r ≡ v → slice_index n.run.locals i ≡ v
+      → Computes code n pc2 r2 l2 got) → Computes code m pc2 r2 l2 got
   local_then m pc pc2 i r r2 l2 v got s is long lt le small go =
       let n : Machine = record { run = next (record (made_one m.run) { locals = slice_set m.run.locals i (reg m.run r) }); world = m.world } in
       let q : Calc code m n (pc + 1) [] r2 i = record {
@@ -130,7 +142,9 @@ module _ (code : List Op) (s : Sight) (scope : Scope) (few : IsLimited scope) wh
   abbrev Fits : Expr → Type 0
   Fits e = ExprFits scope e × (bracket_depth e ≤ 6)
 
-  relation_runs : (r : Relation) (m : Machine) (pc : ℕ) → Fits r.left → Fits r.right → Agrees m s → m.run.pc ≡ pc → HasAt code pc (relation_code r (site_of s)) → Computes code m (pc + length (relation_code r (site_of s))) 0 50 (relation_value r s)
+  relation_runs : (r : Relation) (m : Machine) (pc : ℕ) → Fits r.left → Fits r.right → Agrees m s → m.run.pc ≡ pc
+      → HasAt code pc (relation_code r (site_of s))
+      → Computes code m (pc + length (relation_code r (site_of s))) 0 50 (relation_value r s)
   relation_runs r m pc fl fr a at has =
       let cl = expr_code r.left (site_of s) 0 in
       let cr = expr_code r.right (site_of s) 1 in
@@ -141,7 +155,8 @@ module _ (code : List Op) (s : Sight) (scope : Scope) (few : IsLimited scope) wh
       (expr_runs code s scope r.left m pc 0 few fl.0 (omega (arith, fl.1)) a at (has_front code pc cl (cr ++ op ∷ []) has)) (λ n lx x q is small.
       let b = agrees_on (omega arith) q a in
       bind_runs code (λ y. Gives [] (one_if (stands r.rel x y))) (omega arith) (omega arith)
-      (expr_runs code s scope r.right n (pc + length cl) 1 few fr.0 (omega (arith, fr.1)) b q.at (has_front code (pc + length cl) cr (op ∷ []) h)) (λ n2 ly y q2 is2 small2.
+      (expr_runs code s scope r.right n (pc + length cl) 1 few fr.0 (omega (arith, fr.1)) b q.at
+      (has_front code (pc + length cl) cr (op ∷ []) h)) (λ n2 ly y q2 is2 small2.
       let b2 = agrees_on (omega arith) q2 b in
       let at2 : HasAt code (pc + length cl + length cr) (op ∷ []) = has_back code (pc + length cl) cr (op ∷ []) h in
       let act : machine_step op n2 ≡ record { run = sets 0 (one_if (stands r.rel x y)) (made_one n2.run); world = n2.world } =
@@ -150,10 +165,13 @@ module _ (code : List Op) (s : Sight) (scope : Scope) (few : IsLimited scope) wh
       ∙ ap (λ k. record { run = sets 0 (one_if (stands r.rel x k)) (made_one n2.run); world = n2.world }) is2 in
       let e : pc + length cl + length cr + 1 ≡ end = omega (arith, length-append cl (cr ++ op ∷ []), length-append cr (op ∷ [])) in
       subst (λ k. Computes code n2 k 0 50 (Gives [] (one_if (stands r.rel x y)))) e
-      (op_sets_plain code n2 op (pc + length cl + length cr) 0 _ (runs_at b2 q2.at at2.0 (rel_room r.rel n2)) (one_if_small (stands r.rel x y)) (omega arith) act)))
+      (op_sets_plain code n2 op (pc + length cl + length cr) 0 _ (runs_at b2 q2.at at2.0 (rel_room r.rel n2))
+      (one_if_small (stands r.rel x y)) (omega arith) act)))
 
   -- further relations of a list, from the result so far on
-  and_runs : (rs : List Relation) (before : ℕ) (m : Machine) (pc end : ℕ) → AllByRecursion Fits (relation_exprs rs) → Agrees m s → m.run.pc ≡ pc → reg m.run 0 ≡ before → before < 2 ^ 32 → HasAt code pc (and_code rs (site_of s)) → end ≡ pc + length (and_code rs (site_of s)) → Computes code m end 0 and_local (all_value rs before s)
+  and_runs : (rs : List Relation) (before : ℕ) (m : Machine) (pc end : ℕ) → AllByRecursion Fits (relation_exprs rs)
+      → Agrees m s → m.run.pc ≡ pc → reg m.run 0 ≡ before → before < 2 ^ 32 → HasAt code pc (and_code rs (site_of s))
+      → end ≡ pc + length (and_code rs (site_of s)) → Computes code m end 0 and_local (all_value rs before s)
   and_runs [] before m pc end fits a at is small has e = computes_fewer code (omega arith) (nothing code m end 0 before (omega arith) a.runs is small)
   and_runs (r ∷ rs) before m pc end fits a at is small has e =
       let c = relation_code r (site_of s) in
@@ -161,7 +179,8 @@ module _ (code : List Op) (s : Sight) (scope : Scope) (few : IsLimited scope) wh
       let tail = Ldt 1 and_local ∷ And 0 1 ∷ rest in
       let h : HasAt code (pc + 1 + length c) tail = has_back code (pc + 1) c tail has.1 in
       let go : ℕ → Got = λ v. all_value rs (one_if (is_set before && is_set v)) s in
-      local_then code m pc end and_local 0 0 and_local before (with_value (relation_value r s) go) (runs_at a at has.0 tt) is a.locals (omega arith) (omega arith) small (λ n q is2 is3.
+      local_then code m pc end and_local 0 0 and_local before (with_value (relation_value r s) go)
+      (runs_at a at has.0 tt) is a.locals (omega arith) (omega arith) small (λ n q is2 is3.
       let b = agrees_on (omega arith) q a in
       bind_runs code go (omega arith) (omega arith)
       (relation_runs r n (pc + 1) fits.0 fits.1.0 b q.at (has_front code (pc + 1) c tail has.1)) (λ n2 x v q2 is4 small2.
@@ -176,11 +195,15 @@ module _ (code : List Op) (s : Sight) (scope : Scope) (few : IsLimited scope) wh
       (ap (λ k. record { run = sets 0 (one_if (is_set k && is_set (reg n3.run 1))) (made_one n3.run); world = n3.world }) (q3.low 0 (omega arith) ∙ is4)
       ∙ ap (λ k. record { run = sets 0 (one_if (is_set v && is_set k)) (made_one n3.run); world = n3.world }) is5
       ∙ ap (λ k. record { run = sets 0 k (made_one n3.run); world = n3.world }) (ap one_if (both (is_set v) (is_set before))))) (λ n4 q4 is6.
-      and_runs rs new n4 (pc + 1 + length c + 1 + 1) end fits.1.1 (agrees_on (omega arith) q4 b3) q4.at is6 (one_if_small (is_set before && is_set v)) h.1.1 (omega (arith, length-append c tail))))))
+      and_runs rs new n4 (pc + 1 + length c + 1 + 1) end fits.1.1 (agrees_on (omega arith) q4 b3) q4.at is6
+      (one_if_small (is_set before && is_set v)) h.1.1 (omega (arith, length-append c tail))))))
 
   -- the relations of one list
-  all_runs : (rs : List Relation) (m : Machine) (pc : ℕ) → AllByRecursion Fits (relation_exprs rs) → Agrees m s → m.run.pc ≡ pc → HasAt code pc (all_code rs (site_of s)) → Computes code m (pc + length (all_code rs (site_of s))) 0 and_local (all_value rs 1 s)
-  all_runs [] m pc fits a at has = computes_fewer code (omega arith) (op_sets_plain code m (Ldi 0 1) pc 0 1 (runs_at a at has.0 tt) (omega arith) (omega arith) refl)
+  all_runs : (rs : List Relation) (m : Machine) (pc : ℕ) → AllByRecursion Fits (relation_exprs rs) → Agrees m s
+      → m.run.pc ≡ pc → HasAt code pc (all_code rs (site_of s))
+      → Computes code m (pc + length (all_code rs (site_of s))) 0 and_local (all_value rs 1 s)
+  all_runs [] m pc fits a at has = computes_fewer code (omega arith)
+      (op_sets_plain code m (Ldi 0 1) pc 0 1 (runs_at a at has.0 tt) (omega arith) (omega arith) refl)
   all_runs (r ∷ rs) m pc fits a at has =
       let c = relation_code r (site_of s) in
       let rest = and_code rs (site_of s) in
@@ -188,10 +211,14 @@ module _ (code : List Op) (s : Sight) (scope : Scope) (few : IsLimited scope) wh
       subst (Computes code m end 0 and_local) (sym (first_all r rs s))
       (bind_runs code (λ v. all_value rs v s) (omega arith) (omega arith)
       (relation_runs r m pc fits.0 fits.1.0 a at (has_front code pc c rest has)) (λ n x v q is small.
-      and_runs rs v n (pc + length c) end fits.1.1 (agrees_on (omega arith) q a) q.at is small (has_back code pc c rest has) (omega (arith, length-append c rest))))
+      and_runs rs v n (pc + length c) end fits.1.1 (agrees_on (omega arith) q a) q.at is small
+      (has_back code pc c rest has) (omega (arith, length-append c rest))))
 
   -- further lists of relations, from the result so far on
-  or_runs : (rss : List (List Relation)) (before : ℕ) (m : Machine) (pc end : ℕ) → AllByRecursion Fits (joined (map relation_exprs rss)) → Agrees m s → m.run.pc ≡ pc → reg m.run 0 ≡ before → before < 2 ^ 32 → HasAt code pc (or_code rss (site_of s)) → end ≡ pc + length (or_code rss (site_of s)) → Computes code m end 0 or_local (any_value rss before s)
+  or_runs : (rss : List (List Relation)) (before : ℕ) (m : Machine) (pc end : ℕ)
+      → AllByRecursion Fits (joined (map relation_exprs rss)) → Agrees m s → m.run.pc ≡ pc → reg m.run 0 ≡ before
+      → before < 2 ^ 32 → HasAt code pc (or_code rss (site_of s)) → end ≡ pc + length (or_code rss (site_of s))
+      → Computes code m end 0 or_local (any_value rss before s)
   or_runs [] before m pc end fits a at is small has e = computes_fewer code (omega arith) (nothing code m end 0 before (omega arith) a.runs is small)
   or_runs (rs ∷ rss) before m pc end fits a at is small has e =
       let c = all_code rs (site_of s) in
@@ -201,7 +228,8 @@ module _ (code : List Op) (s : Sight) (scope : Scope) (few : IsLimited scope) wh
       let go : ℕ → Got = λ v. any_value rss (one_if (is_set before || is_set v)) s in
       let here = all_left Fits (relation_exprs rs) (joined (map relation_exprs rss)) fits in
       let later = all_right Fits (relation_exprs rs) (joined (map relation_exprs rss)) fits in
-      local_then code m pc end or_local 0 0 or_local before (with_value (all_value rs 1 s) go) (runs_at a at has.0 tt) is a.locals (omega arith) (omega arith) small (λ n q is2 is3.
+      local_then code m pc end or_local 0 0 or_local before (with_value (all_value rs 1 s) go) (runs_at a at has.0 tt)
+      is a.locals (omega arith) (omega arith) small (λ n q is2 is3.
       let b = agrees_on (omega arith) q a in
       bind_runs code go (omega arith) (omega arith)
       (all_runs rs n (pc + 1) here b q.at (has_front code (pc + 1) c tail has.1)) (λ n2 x v q2 is4 small2.
@@ -216,11 +244,15 @@ module _ (code : List Op) (s : Sight) (scope : Scope) (few : IsLimited scope) wh
       (ap (λ k. record { run = sets 0 (one_if (is_set k || is_set (reg n3.run 1))) (made_one n3.run); world = n3.world }) (q3.low 0 (omega arith) ∙ is4)
       ∙ ap (λ k. record { run = sets 0 (one_if (is_set v || is_set k)) (made_one n3.run); world = n3.world }) is5
       ∙ ap (λ k. record { run = sets 0 k (made_one n3.run); world = n3.world }) (ap one_if (either (is_set v) (is_set before))))) (λ n4 q4 is6.
-      or_runs rss new n4 (pc + 1 + length c + 1 + 1) end later (agrees_on (omega arith) q4 b3) q4.at is6 (one_if_small (is_set before || is_set v)) h.1.1 (omega (arith, length-append c tail))))))
+      or_runs rss new n4 (pc + 1 + length c + 1 + 1) end later (agrees_on (omega arith) q4 b3) q4.at is6
+      (one_if_small (is_set before || is_set v)) h.1.1 (omega (arith, length-append c tail))))))
 
   -- the lists of relations
-  any_runs : (rss : List (List Relation)) (m : Machine) (pc : ℕ) → AllByRecursion Fits (joined (map relation_exprs rss)) → Agrees m s → m.run.pc ≡ pc → HasAt code pc (any_code rss (site_of s)) → Computes code m (pc + length (any_code rss (site_of s))) 0 or_local (any_value rss 0 s)
-  any_runs [] m pc fits a at has = computes_fewer code (omega arith) (op_sets_plain code m (Ldi 0 0) pc 0 0 (runs_at a at has.0 tt) (omega arith) (omega arith) refl)
+  any_runs : (rss : List (List Relation)) (m : Machine) (pc : ℕ) → AllByRecursion Fits (joined (map relation_exprs rss))
+      → Agrees m s → m.run.pc ≡ pc → HasAt code pc (any_code rss (site_of s))
+      → Computes code m (pc + length (any_code rss (site_of s))) 0 or_local (any_value rss 0 s)
+  any_runs [] m pc fits a at has = computes_fewer code (omega arith)
+      (op_sets_plain code m (Ldi 0 0) pc 0 0 (runs_at a at has.0 tt) (omega arith) (omega arith) refl)
   any_runs (rs ∷ rss) m pc fits a at has =
       let c = all_code rs (site_of s) in
       let rest = or_code rss (site_of s) in
@@ -230,9 +262,12 @@ module _ (code : List Op) (s : Sight) (scope : Scope) (few : IsLimited scope) wh
       subst (Computes code m end 0 or_local) (sym (first_any rs rss s))
       (bind_runs code (λ v. any_value rss v s) (omega arith) (omega arith)
       (all_runs rs m pc here a at (has_front code pc c rest has)) (λ n x v q is small.
-      or_runs rss v n (pc + length c) end later (agrees_on (omega arith) q a) q.at is small (has_back code pc c rest has) (omega (arith, length-append c rest))))
+      or_runs rss v n (pc + length c) end later (agrees_on (omega arith) q a) q.at is small
+      (has_back code pc c rest has) (omega (arith, length-append c rest))))
 
 -- from a machine that has what the condition sees, its code computes its value
-pub cond_runs : (code : List Op) (s : Sight) (scope : Scope) (c : Cond) (m : Machine) (pc : ℕ) → IsLimited scope → ExprsFit scope (cond_exprs c) → Agrees m s → m.run.pc ≡ pc → HasAt code pc (cond_code c (site_of s)) → Computes code m (pc + length (cond_code c (site_of s))) 0 48 (cond_value c s)
+pub cond_runs : (code : List Op) (s : Sight) (scope : Scope) (c : Cond) (m : Machine) (pc : ℕ) → IsLimited scope
+    → ExprsFit scope (cond_exprs c) → Agrees m s → m.run.pc ≡ pc → HasAt code pc (cond_code c (site_of s))
+    → Computes code m (pc + length (cond_code c (site_of s))) 0 48 (cond_value c s)
 cond_runs code s scope c m pc few fits a at has =
     any_runs code s scope few c.any m pc (all_both (ExprFits scope) (λ e. bracket_depth e ≤ 6) (cond_exprs c) fits.each fits.shallow) a at has

@@ -1,5 +1,6 @@
 -- Lists of instructions that grow at the end.
-use Rattle.std.proofs.Common.{◌≡◌, ℕ, ◌+◌, List, [], ◌++◌, refl, sym, ap, ◌∙◌, append_assoc, append-nil, subst}
+use Rattle.std.proofs.Common.{◌≡◌, ℕ, ◌+◌, List, [], ◌++◌, refl, sym, ap, ◌∙◌, append_assoc}
+use Rattle.std.proofs.Common.{append-nil, subst}
 use Rattle.machine_code.specs.declared.op.Op.{Op}
 use Rattle.store_layout.specs.Rows.{Rows}
 use Rattle.expr_code.specs.Code.{Site}
@@ -43,7 +44,9 @@ pub emitting_begin : (l : Rows) (b : ℕ) (old : List Op) (left all : Site → L
 emitting_begin l b old left all e = record { begins = begins_same old old refl; is = λ site h. emitted_begin old (left site) (all site) (e site) }
 
 -- one more part, which is of the site or not
-pub emitting_on : (l : Rows) (b : ℕ) (old now new : List Op) (part left all : Site → List Op) → GrowsByCode l b now new part → Emitting l b old now (λ site. part site ++ left site) all → Emitting l b old new left all
+pub emitting_on : (l : Rows) (b : ℕ) (old now new : List Op) (part left all : Site → List Op)
+    → GrowsByCode l b now new part → Emitting l b old now (λ site. part site ++ left site) all
+    → Emitting l b old new left all
 emitting_on l b old now new part left all g h = record {
   begins = begins_on old now new h.begins g.begins;
   is = λ site s. emitted_on old now new (part site) (left site) (all site) (g.is site s) (h.is site s);
@@ -52,11 +55,13 @@ emitting_on l b old now new part left all g h = record {
 pub grows_plain : (l : Rows) (b : ℕ) (old new part : List Op) → new ≡ old ++ part → GrowsByCode l b old new (λ site. part)
 grows_plain l b old new part e = record { begins = begins_is old new part e; is = λ site s. e }
 
-pub emitting_with : (l : Rows) (b : ℕ) (old now new part : List Op) (left all : Site → List Op) → new ≡ now ++ part → Emitting l b old now (λ site. part ++ left site) all → Emitting l b old new left all
+pub emitting_with : (l : Rows) (b : ℕ) (old now new part : List Op) (left all : Site → List Op) → new ≡ now ++ part
+    → Emitting l b old now (λ site. part ++ left site) all → Emitting l b old new left all
 emitting_with l b old now new part left all e h = emitting_on l b old now new (λ site. part) left all (grows_plain l b now new part e) h
 
 -- nothing is left
-pub emitting_end : (l : Rows) (b : ℕ) (old now : List Op) (left all : Site → List Op) → ((site : Site) → left site ≡ []) → Emitting l b old now left all → GrowsByCode l b old now all
+pub emitting_end : (l : Rows) (b : ℕ) (old now : List Op) (left all : Site → List Op) → ((site : Site) → left site ≡ [])
+    → Emitting l b old now left all → GrowsByCode l b old now all
 emitting_end l b old now left all none h = record {
   begins = h.begins;
   is = λ site s. emitted_end old now (all site) (subst (λ rest. Emitted old now rest (all site)) (none site) (h.is site s));

@@ -5,7 +5,11 @@ use Rattle.std.specs.List.{AllByRecursion}
 use Rattle.exchange_model.specs.declared.expr.Expr.{Expr}
 use Rattle.exchange_model.specs.declared.expr.Term.{Term, out-Term}
 use Rattle.exchange_model.specs.declared.expr.Joined.{Joined}
-use Rattle.exchange_model.specs.declared.expr.Factor.TheVariants.{Number, Variable, Temporary, Field, Bracket, Reference, outs-Number, outs-Variable, outs-Temporary, outs-Field, outs-Bracket, outs-Reference}
+use Rattle.exchange_model.specs.declared.expr.Factor.TheVariants.{Number, Variable, Temporary}
+use Rattle.exchange_model.specs.declared.expr.Factor.TheVariants.{Field, Bracket, Reference}
+use Rattle.exchange_model.specs.declared.expr.Factor.TheVariants.{outs-Number, outs-Variable}
+use Rattle.exchange_model.specs.declared.expr.Factor.TheVariants.{outs-Temporary, outs-Field}
+use Rattle.exchange_model.specs.declared.expr.Factor.TheVariants.{outs-Bracket, outs-Reference}
 use Rattle.exchange_model.specs.Inside.{most, bracket_depth}
 use Rattle.exchange_model.specs.Fits.{Scope, IsField, FactorFits, ExprFits}
 use Rattle.exchange_model.specs.PartFits.{TermFits, JoinedFits, FactorOwnFits, InsideFits}
@@ -22,7 +26,8 @@ variable_fits s v h = subst (FactorFits s) (outs-Variable v) (factor_fits-out s 
 pub temporary_fits : (s : Scope) (t : ℕ) → FactorOwnFits s (Temporary t) → t < length s.block.temporaries
 temporary_fits s t h = subst (FactorFits s) (outs-Temporary t) (factor_fits-out s (Temporary t) h).0
 
-pub field_fits : (s : Scope) (file field pointer : ℕ) → FactorOwnFits s (Field file field pointer) → IsField s file field × (pointer < length s.block.temporaries)
+pub field_fits : (s : Scope) (file field pointer : ℕ) → FactorOwnFits s (Field file field pointer)
+    → IsField s file field × (pointer < length s.block.temporaries)
 field_fits s file field pointer h = subst (FactorFits s) (outs-Field file field pointer) (factor_fits-out s (Field file field pointer) h).0
 
 pub bracket_fits : (s : Scope) (e : Expr) → FactorOwnFits s (Bracket e) → ExprFits s e

@@ -5,9 +5,16 @@ use Rattle.machine_code.specs.declared.op.Op.TheVariants.{Ldi, Ldt, Ldw}
 use Rattle.exchange_model.specs.declared.expr.Expr.{Expr, out-Expr, fold_out-Expr}
 use Rattle.exchange_model.specs.declared.expr.Term.{Term, out-Term, fold-Term, fold_out-Term}
 use Rattle.exchange_model.specs.declared.expr.Joined.{Joined, fold-Joined, fold_out-Joined}
-use Rattle.exchange_model.specs.declared.expr.Factor.{Factor, Factor-F, map-Factor, out-Factor, fold_out-Factor}
-use Rattle.exchange_model.specs.declared.expr.Factor.TheVariants.{Number, Variable, Temporary, Field, Bracket, Reference, outs-Number, outs-Variable, outs-Temporary, outs-Field, outs-Bracket, outs-Reference}
-use Rattle.expr_code.specs.Code.{Code, FactorCode, TermCode, factor_layer, joined_layer, term_layer, expr_layer, whole_product, whole_sum, field_code, expr_code, term_code, factor_code, joined_code, summand_code}
+use Rattle.exchange_model.specs.declared.expr.Factor.{Factor, Factor-F, map-Factor, out-Factor}
+use Rattle.exchange_model.specs.declared.expr.Factor.{fold_out-Factor}
+use Rattle.exchange_model.specs.declared.expr.Factor.TheVariants.{Number, Variable, Temporary}
+use Rattle.exchange_model.specs.declared.expr.Factor.TheVariants.{Field, Bracket, Reference}
+use Rattle.exchange_model.specs.declared.expr.Factor.TheVariants.{outs-Number, outs-Variable}
+use Rattle.exchange_model.specs.declared.expr.Factor.TheVariants.{outs-Temporary, outs-Field}
+use Rattle.exchange_model.specs.declared.expr.Factor.TheVariants.{outs-Bracket, outs-Reference}
+use Rattle.expr_code.specs.Code.{Code, FactorCode, TermCode, factor_layer, joined_layer, term_layer}
+use Rattle.expr_code.specs.Code.{expr_layer, whole_product, whole_sum, field_code, expr_code}
+use Rattle.expr_code.specs.Code.{term_code, factor_code, joined_code, summand_code}
 
 -- what the fold makes of a factor in a term and of a term
 abbrev folded_joined : Joined → FactorCode
@@ -56,7 +63,8 @@ factor_code-Variable v = factor_code-out (Variable v) ∙ ap opened (outs-Variab
 pub factor_code-Temporary : (t : ℕ) → factor_code (Temporary t) ≡ (λ site r. Ldt r t ∷ [])
 factor_code-Temporary t = factor_code-out (Temporary t) ∙ ap opened (outs-Temporary t)
 
-pub factor_code-Field : (file field pointer : ℕ) → factor_code (Field file field pointer) ≡ (λ site r. field_code (slice_get site.files file) file field pointer r)
+pub factor_code-Field : (file field pointer : ℕ)
+    → factor_code (Field file field pointer) ≡ (λ site r. field_code (slice_get site.files file) file field pointer r)
 factor_code-Field file field pointer = factor_code-out (Field file field pointer) ∙ ap opened (outs-Field file field pointer)
 
 pub factor_code-Bracket : (e : Expr) → factor_code (Bracket e) ≡ expr_code e

@@ -1,9 +1,11 @@
 -- What it is that code computes a value.
 --
--- From a machine that has what an expression sees, the code of the expression goes to its end, with the value in its
--- register and the same loads in the trace, or it stops at the same fault. All that stands below its registers and its
--- locals is as before, and so is all else but the number of instructions made.
-use Rattle.std.specs.Prelude.{◌≡◌, ℕ, ◌+◌, ◌^◌, ◌<◌, List, [], ◌∷◌, length, slice_get, slice_index, Some, None}
+-- From a machine that has what an expression sees, the code of the expression goes to its end, with
+-- the value in its register and the same loads in the trace, or it stops at the same fault. All
+-- that stands below its registers and its locals is as before, and so is all else but the number of
+-- instructions made.
+use Rattle.std.specs.Prelude.{◌≡◌, ℕ, ◌+◌, ◌^◌, ◌<◌, List, [], ◌∷◌, length, slice_get, slice_index}
+use Rattle.std.specs.Prelude.{Some, None}
 use Rattle.job_types.specs.declared.fault.Fault.{Fault}
 use Rattle.job_types.specs.declared.outcome.Outcome.TheVariants.{Faulted}
 use Rattle.plex_limits.specs.declared.limits.TheConstants.{MOST_TEMPORARIES}
@@ -44,8 +46,10 @@ pub record Agrees (m : Machine) (s : Sight) : Type 0 where
 abbrev pub KeepsRegisters : (r : ℕ) → (m n : Machine) → Type 0
 KeepsRegisters r m n = (k : ℕ) → k < r → reg n.run k ≡ reg m.run k
 
--- the machine goes to an address with these loads: the registers below r and the locals below l are as before
-pub record Calc (code : List Op) (m n : Machine) (pc : ℕ) (loads : List Touch) (r l : ℕ) : Type 0 where
+-- the machine goes to an address with these loads: the registers below r and the locals below l are
+-- as before
+pub record Calc (code : List Op) (m n : Machine) (pc : ℕ) (loads : List Touch) (r l : ℕ) : Type
+    0 where
   pub goes : Goes code m n
   pub at : n.run.pc ≡ pc
   pub registers : length n.run.regs ≡ length m.run.regs
@@ -67,5 +71,7 @@ pub record Stops (code : List Op) (m n : Machine) (loads : List Touch) (f : Faul
 
 -- the machine comes to an address with the value in the register r, or it stops at the fault
 pub data Computes (code : List Op) (m : Machine) (pc r l : ℕ) : Got → Type 0 where
-  gives : {n : Machine} {loads : List Touch} {v : ℕ} → Calc code m n pc loads r l → reg n.run r ≡ v → v < 2 ^ 32 → Computes code m pc r l (Gives loads v)
-  stops : {n : Machine} {loads : List Touch} {f : Fault} → Stops code m n loads f → Computes code m pc r l (Fails loads f)
+  gives : {n : Machine} {loads : List Touch} {v : ℕ} → Calc code m n pc loads r l → reg n.run r ≡ v
+      → v < 2 ^ 32 → Computes code m pc r l (Gives loads v)
+  stops : {n : Machine} {loads : List Touch} {f : Fault} → Stops code m n loads f
+      → Computes code m pc r l (Fails loads f)

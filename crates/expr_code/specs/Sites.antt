@@ -1,7 +1,7 @@
 -- What code needs of the place where it stands, and whose expressions it may be.
 --
--- A layout tells where the words of a block and of the files stand, and not which exchange it was made of. So code is said
--- for each site that the layout can be of.
+-- A layout tells where the words of a block and of the files stand, and not which exchange it was
+-- made of. So code is said for each site that the layout can be of.
 use Rattle.std.specs.Prelude.{◌≡◌, ℕ, ◌+◌, ◌^◌, ◌<◌, ◌≤◌, List, ◌++◌, length, map, slice_get, Some}
 use Rattle.machine_code.specs.declared.op.Op.{Op}
 use Rattle.exchange_model.specs.declared.expr.Expr.{Expr}
@@ -9,7 +9,8 @@ use Rattle.exchange_model.specs.declared.expr.Term.{Term}
 use Rattle.exchange_model.specs.declared.expr.Factor.{Factor}
 use Rattle.exchange_model.specs.declared.expr.Cond.{Cond}
 use Rattle.exchange_model.specs.declared.expr.Relation.{Relation}
-use Rattle.plex_limits.specs.declared.limits.TheConstants.{MOST_BLOCKS, MOST_BRACKETS, MOST_TEMPORARIES}
+use Rattle.plex_limits.specs.declared.limits.TheConstants.{MOST_BLOCKS, MOST_BRACKETS}
+use Rattle.plex_limits.specs.declared.limits.TheConstants.{MOST_TEMPORARIES}
 use Rattle.std.specs.List.{AllByRecursion}
 use Rattle.exchange_model.specs.Cells.{Placed, placed_files, record_cells}
 use Rattle.exchange_model.specs.Inside.{bracket_depth, relation_exprs, cond_exprs}
@@ -52,7 +53,8 @@ pub record Begins (old new : List Op) : Type 0 where
   pub is : new ≡ old ++ rest
 
 -- the list grows by the code for the site of the block
-pub record GrowsByCode (l : Rows) (block : ℕ) (old new : List Op) (code : Site → List Op) : Type 0 where
+pub record GrowsByCode (l : Rows) (block : ℕ) (old new : List Op) (code : Site → List Op) : Type
+    0 where
   pub begins : Begins old new
   pub is : (site : Site) → IsSiteOf l block site → new ≡ old ++ code site
 
@@ -61,7 +63,8 @@ pub record GrowsByRow (row : FileRow) (old new : List Op) (code : Placed → Lis
   pub begins : Begins old new
   pub is : (p : Placed) → file_row p ≡ row → new ≡ old ++ code p
 
--- the scope is that of the block of this number in an exchange with the layout, in which each file has a record
+-- the scope is that of the block of this number in an exchange with the layout, in which each file
+-- has a record
 pub record IsScopeOf (l : Rows) (block : ℕ) (scope : Scope) : Type 0 where
   pub layout : IsLayout scope.blocks l
   pub there : slice_get scope.blocks block ≡ Some scope.block

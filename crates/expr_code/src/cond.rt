@@ -1,7 +1,8 @@
 // The code of a condition.
 ghost use Rattle.std.specs.Prelude.{◌≡◌, ◌≤◌, ◌++◌, OnOk, OnErr};
 ghost use Rattle.expr_code.specs.Code.{cond_code, all_code, relation_code, rel_op as op_of_rel};
-ghost use Rattle.expr_code.specs.Sites.{IsCondOf, AreRelationsOf, IsRelationOf, Begins, GrowsByCode};
+ghost use Rattle.expr_code.specs.Sites.{IsCondOf, AreRelationsOf, IsRelationOf, Begins};
+ghost use Rattle.expr_code.specs.Sites.{GrowsByCode};
 
 use crate::expr::expr_code;
 use crate::push::push_all;
@@ -15,8 +16,9 @@ const OR_LOCAL: u8 = 48;
 /// The local of the result of AND so far, while a further relation is evaluated.
 const AND_LOCAL: u8 = 49;
 
-/// Appends the code that leaves 1 in register 0 where a condition of the block holds, else 0. It may use all registers, and
-/// keeps the results of OR and AND so far in the locals 48 and 49. After `Memory` the list begins as before.
+/// Appends the code that leaves 1 in register 0 where a condition of the block holds, else 0. It
+/// may use all registers, and keeps the results of OR and AND so far in the locals 48 and 49. After
+/// `Memory` the list begins as before.
 #[tactic(auto, using(crate::proofs::CondSteps::each_list, crate::proofs::Emits::growing))]
 pub fn cond_code(cond: &Cond, layout: &Layout, block: u32, ops: &mut Seq<Op>) -> Result<(), Memory>
     requires of_block { IsCondOf layout.now block cond.now }

@@ -2,7 +2,8 @@
 ghost use Rattle.std.specs.Prelude.{◌≡◌, ◌+◌, ◌*◌, ◌<◌, ◌++◌, OnOk, OnErr};
 ghost use Rattle.exchange_model.specs.Inside.{bracket_depth};
 ghost use Rattle.exchange_model.specs.PartCounts.{term_depth, factor_own_depth};
-ghost use Rattle.expr_code.specs.Code.{expr_code, term_code, factor_code, term_op as op_of_term, factor_op as op_of_factor};
+ghost use Rattle.expr_code.specs.Code.{expr_code, term_code, factor_code, term_op as op_of_term};
+ghost use Rattle.expr_code.specs.Code.{factor_op as op_of_factor};
 ghost use Rattle.expr_code.specs.Sites.{IsExprOfBlock, IsTermOf, IsFactorOf, Begins, GrowsByCode};
 
 use crate::field::push_field;
@@ -12,8 +13,8 @@ use machine_code::Op;
 use plex_num::{Memory, Seq};
 use store_layout::{Layout, word_of};
 
-/// Appends the code that leaves the value of an expression of the block in the register `first`, and uses none below it. After
-/// `Memory` the list begins as before.
+/// Appends the code that leaves the value of an expression of the block in the register `first`,
+/// and uses none below it. After `Memory` the list begins as before.
 #[cycle(code)]
 #[tactic(auto, using(crate::proofs::EmitSteps::each_term, crate::proofs::Emits::growing))]
 pub fn expr_code(

@@ -9,7 +9,8 @@ use machine_code::Op;
 use plex_num::{Memory, Seq};
 use store_layout::{FileRow, Layout, file_of};
 
-/// Appends the code that checks the pointer in the register `r` to a record of the file, which has this row.
+/// Appends the code that checks the pointer in the register `r` to a record of the file, which has
+/// this row.
 #[tactic(auto, using(crate::proofs::FieldSteps::pointer_own, crate::proofs::FieldSteps::pointer_plain, crate::proofs::Emits::begins_is))]
 fn push_pointer(row: FileRow, file: u32, r: u8, ops: &mut Seq<Op>) -> Result<(), Memory>
     ensures code { OnOk result (GrowsByRow row ops.old ops.new (λ p. pointer_code p file r)) }

@@ -13,9 +13,10 @@ ghost use Rattle.expr_code.specs.Code.{Site as Place, expr_code, cond_code};
 ghost use Rattle.expr_code.specs.Runs.{HasAt, site_of, Agrees, Computes};
 ghost use Rattle.expr_code.specs.Sites.{IsLimited, IsSite};
 
-/// From a machine that has what an expression or a condition sees, and stands at its code, the run comes to the end of the
-/// code with its value in the register, or stops at its fault, and has made its loads and no others. Code of an expression
-/// keeps all locals and the registers below its own, and code of a condition the locals below 48.
+/// From a machine that has what an expression or a condition sees, and stands at its code, the run
+/// comes to the end of the code with its value in the register, or stops at its fault, and has made
+/// its loads and no others. Code of an expression keeps all locals and the registers below its own,
+/// and code of a condition the locals below 48.
 pub fn code_computes_its_value()
     ensures expr { (code : List Op) (s : Sight) (scope : Scope) (e : Expr) (m : Machine) (pc r : ℕ)
         → IsLimited scope → ExprFits scope e → r + (2 * bracket_depth e + 2) < 16

@@ -1,7 +1,9 @@
 -- What several give, one after the other.
-use Rattle.std.proofs.Common.{◌≡◌, ◌⊎◌, inl, inr, ⊎_elim, ℕ, ◌+◌, ◌<◌, ◌≤◌, List, [], ◌++◌, length, drop, get_or, sym, ap, ◌∙◌, subst, append-nil, append_assoc}
+use Rattle.std.proofs.Common.{◌≡◌, ◌⊎◌, inl, inr, ⊎_elim, ℕ, ◌+◌, ◌<◌, ◌≤◌, List, [], ◌++◌, length}
+use Rattle.std.proofs.Common.{drop, get_or, sym, ap, ◌∙◌, subst, append-nil, append_assoc}
 use Rattle.std.proofs.Math.ListN.{drop_of_length-le}
-use Rattle.std.proofs.lemmas.List.Elements.{Contains-append_left, Contains-append_right, Contains-append_cases}
+use Rattle.std.proofs.lemmas.List.Elements.{Contains-append_left, Contains-append_right}
+use Rattle.std.proofs.lemmas.List.Elements.{Contains-append_cases}
 use Rattle.std.specs.List.{Contains}
 use Rattle.std.proofs.lemmas.List.{get_or_default, drop_more}
 use Rattle.plex_num.proofs.Members.{first_or_later, none_in}
@@ -18,7 +20,8 @@ pub record Gathers {A : Type 0} (G : A → Fact → Type 0) (xs : List A) (old :
 pub gather_begin : {A : Type 0} (G : A → Fact → Type 0) (xs : List A) (old : List Fact) → Gathers G xs old 0 old
 gather_begin G xs old = record { added = []; is = sym (append-nil old); each = λ f c. absurd (none_in f c); listed = λ f h. inr h }
 
-pub gather_more : {A : Type 0} (G : A → Fact → Type 0) (xs : List A) (i : ℕ) (d : A) (old now new : List Fact) → i < length xs → HasGiven now new (G (get_or xs i d)) → Gathers G xs old i now → Gathers G xs old (i + 1) new
+pub gather_more : {A : Type 0} (G : A → Fact → Type 0) (xs : List A) (i : ℕ) (d : A) (old now new : List Fact)
+    → i < length xs → HasGiven now new (G (get_or xs i d)) → Gathers G xs old i now → Gathers G xs old (i + 1) new
 gather_more {A} G xs i d old now new lt h g = record {
   added = g.added ++ h.added;
   is = h.is ∙ ap (λ l. l ++ h.added) g.is ∙ append_assoc old g.added h.added;
@@ -36,7 +39,8 @@ gather_more {A} G xs i d old now new lt h g = record {
         (λ more. inr (record { one = o.one; among = more; gives = o.gives }))
         (first_or_later (get_or xs i d) o.one (drop (i + 1) xs) (subst (λ l. Contains l o.one) (drop_more xs i d lt) o.among))
 
-pub gather_end : {A : Type 0} (G : A → Fact → Type 0) (xs : List A) (i : ℕ) (old now : List Fact) → length xs ≤ i → Gathers G xs old i now → HasGiven old now (OneGives G xs)
+pub gather_end : {A : Type 0} (G : A → Fact → Type 0) (xs : List A) (i : ℕ) (old now : List Fact) → length xs ≤ i
+    → Gathers G xs old i now → HasGiven old now (OneGives G xs)
 gather_end G xs i old now past g = record {
   added = g.added;
   is = g.is;

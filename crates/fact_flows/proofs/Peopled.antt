@@ -1,5 +1,7 @@
 -- At each point of an exchange a statement stands.
-use Rattle.std.proofs.Common.{◌≡◌, inl, inr, ⊎_elim, ℕ, zero, suc, ◌+◌, ◌<◌, List, [], ◌∷◌, length, map, max, Option, Some, None, slice_get, get_or, refl, sym, ap, ◌∙◌, subst, arith}
+use Rattle.std.proofs.Common.{◌≡◌, inl, inr, ⊎_elim, ℕ, zero, suc, ◌+◌, ◌<◌, List, [], ◌∷◌, length}
+use Rattle.std.proofs.Common.{map, max, Option, Some, None, slice_get, get_or, refl, sym, ap, ◌∙◌}
+use Rattle.std.proofs.Common.{subst, arith}
 use Rattle.std.proofs.Math.Nat.{le-max_left, le-max_right}
 use Rattle.std.proofs.lemmas.List.Elements.{Contains-append_cases}
 use Rattle.std.proofs.lemmas.List.FromFn.{length-range_with_len, get_or-range_with_len}
@@ -11,9 +13,11 @@ use Rattle.exchange_model.specs.declared.stmt.Stmt.{Stmt}
 use Rattle.exchange_model.specs.declared.stmt.When.{When, out-When}
 use Rattle.exchange_model.specs.declared.stmt.StmtKind.{out-StmtKind}
 use Rattle.exchange_model.specs.declared.stmt.StmtKind.TheOpen as stmt
-use Rattle.exchange_model.specs.Inside.{PointLine, joined, most, spots, inner_spots, text_depth, kind_depth}
+use Rattle.exchange_model.specs.Inside.{PointLine, joined, most, spots, inner_spots, text_depth}
+use Rattle.exchange_model.specs.Inside.{kind_depth}
 use Rattle.exchange_model.specs.Kept.{IsExchange, all_spots}
-use Rattle.exchange_model.specs.PartCounts.{parts_depth, when_depth, stmt_spots, when_spots, parts_spots}
+use Rattle.exchange_model.specs.PartCounts.{parts_depth, when_depth, stmt_spots, when_spots}
+use Rattle.exchange_model.specs.PartCounts.{parts_spots}
 use Rattle.exchange_model.proofs.Counted.{inner_spots-out, kind_depth-out}
 use Rattle.source_meaning.specs.Named.{Layer}
 use Rattle.source_meaning.specs.Rests.{IsRow, whole, later, first_point}
@@ -38,9 +42,12 @@ one_less m n lt = omega arith
 module _ (x : Exchange) (b : ℕ) where
   -- each statement of a row of less than this depth stands at its point
   abbrev Stood : ℕ → Type 0
-  Stood n = (list : List Stmt) (end : Option ℕ) → IsRow x b list end → text_depth list < n → (spot : PointLine) → Contains (spots list) spot → Standing x spot.point
+  Stood n = (list : List Stmt) (end : Option ℕ) → IsRow x b list end → text_depth list < n → (spot : PointLine)
+      → Contains (spots list) spot → Standing x spot.point
 
-  in_whens : (n : ℕ) (next : Option ℕ) → Stood n → (whens : List When) → ((w : When) → Contains whens w → IsRow x b (out-When w).body next) → most (map when_depth whens) < n → (spot : PointLine) → Contains (joined (map when_spots whens)) spot → Standing x spot.point
+  in_whens : (n : ℕ) (next : Option ℕ) → Stood n → (whens : List When)
+      → ((w : When) → Contains whens w → IsRow x b (out-When w).body next) → most (map when_depth whens) < n
+      → (spot : PointLine) → Contains (joined (map when_spots whens)) spot → Standing x spot.point
   in_whens n next deep [] rows lt spot c = absurd (none_in spot c)
   in_whens n next deep (w ∷ ws) rows lt spot c =
       ⊎_elim
@@ -48,7 +55,8 @@ module _ (x : Exchange) (b : ℕ) where
       (λ more. in_whens n next deep ws (λ v at. rows v (later_is w v ws at)) (right_lt (when_depth w) (most (map when_depth ws)) n lt) spot more)
       (Contains-append_cases (when_spots w) (joined (map when_spots ws)) spot c)
 
-  inside : (n p : ℕ) (next : Option ℕ) → Stood n → (l : Layer) → HasRows x b p next l → parts_depth l < suc n → (spot : PointLine) → Contains (parts_spots l) spot → Standing x spot.point
+  inside : (n p : ℕ) (next : Option ℕ) → Stood n → (l : Layer) → HasRows x b p next l → parts_depth l < suc n
+      → (spot : PointLine) → Contains (parts_spots l) spot → Standing x spot.point
   inside n p next deep (stmt.If cond yes_part no_part) rows lt spot c =
       let low = one_less (max (text_depth yes_part) (text_depth no_part)) n lt in
       ⊎_elim
@@ -58,13 +66,16 @@ module _ (x : Exchange) (b : ℕ) where
   inside n p next deep (stmt.Case value whens otherwise) rows lt spot c =
       let low = one_less (max (most (map when_depth whens)) (text_depth otherwise)) n lt in
       ⊎_elim
-      (λ h. in_whens n next deep whens (λ w at. rows.branches (out-When w).body (inr (w, at, refl))) (left_lt (most (map when_depth whens)) (text_depth otherwise) n low) spot h)
+      (λ h. in_whens n next deep whens (λ w at. rows.branches (out-When w).body (inr (w, at, refl)))
+      (left_lt (most (map when_depth whens)) (text_depth otherwise) n low) spot h)
       (λ h. deep otherwise next (rows.branches otherwise (inl refl)) (right_lt (most (map when_depth whens)) (text_depth otherwise) n low) spot h)
       (Contains-append_cases (joined (map when_spots whens)) (spots otherwise) spot c)
-  inside n p next deep (stmt.On temp from upto body) rows lt spot c = deep body (Some p) (rows.turns temp from upto body refl) (one_less (text_depth body) n lt) spot c
+  inside n p next deep (stmt.On temp from upto body) rows lt spot c = deep body (Some p)
+      (rows.turns temp from upto body refl) (one_less (text_depth body) n lt) spot c
   inside n p next deep _ rows lt spot c = absurd (none_in spot c)
 
-  deeper : (n : ℕ) → Stood n → (list : List Stmt) (end : Option ℕ) → IsRow x b list end → text_depth list < suc n → (spot : PointLine) → Contains (spots list) spot → Standing x spot.point
+  deeper : (n : ℕ) → Stood n → (list : List Stmt) (end : Option ℕ) → IsRow x b list end → text_depth list < suc n
+      → (spot : PointLine) → Contains (spots list) spot → Standing x spot.point
   deeper n deep [] end row lt spot c = absurd (none_in spot c)
   deeper n deep (s ∷ rest) end row lt spot c =
       ⊎_elim
@@ -90,11 +101,15 @@ module _ (x : Exchange) (b : ℕ) where
   all_stood (suc n) list end row lt = deeper n (all_stood n) list end row lt
 
 module _ (x : Exchange) where
-  texts_from : (b : ℕ) (blocks : List Block) → ((i : ℕ) (k : Block) → slice_get blocks i ≡ Some k → slice_get x.blocks (b + i) ≡ Some k) → (spot : PointLine) → Contains (all_spots blocks) spot → Standing x spot.point
+  texts_from : (b : ℕ) (blocks : List Block) → ((i : ℕ) (k : Block) → slice_get blocks i ≡ Some k
+      → slice_get x.blocks (b + i) ≡ Some k) → (spot : PointLine) → Contains (all_spots blocks) spot
+      → Standing x spot.point
   texts_from b [] are spot c = absurd (none_in spot c)
   texts_from b (k ∷ rest) are spot c =
       ⊎_elim
-      (λ own. all_stood x b (suc (text_depth k.body)) k.body None (whole k (let e : b + 0 ≡ b = omega arith in subst (λ n. slice_get x.blocks n ≡ Some k) e (are 0 k refl))) (omega arith) spot own)
+      (λ own. all_stood x b (suc (text_depth k.body)) k.body None
+      (whole k (let e : b + 0 ≡ b = omega arith in subst (λ n. slice_get x.blocks n ≡ Some k) e (are 0 k refl)))
+      (omega arith) spot own)
       (λ more. texts_from (b + 1) rest (get_later rest x.blocks k b are) spot more)
       (Contains-append_cases (spots k.body) (all_spots rest) spot c)
 

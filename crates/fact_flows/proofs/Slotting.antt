@@ -1,7 +1,10 @@
 -- The slots before a point, as a row tells them.
-use Rattle.std.proofs.Common.{◌≡◌, ⊎_elim, ℕ, ◌+◌, ◌<◌, ◌≤◌, List, [], ◌∷◌, ◌++◌, length, map, Some, slice_get, sym, ap, ◌∙◌, subst, arith, append-nil, append_assoc}
-use Rattle.std.proofs.lemmas.List.Elements.{Contains-append_left, Contains-append_right, Contains-append_cases}
-use Rattle.std.proofs.lemmas.List.FromFn.{length-map-range_with_len, get_or-map-range_with_len, map-range_with_len_more}
+use Rattle.std.proofs.Common.{◌≡◌, ⊎_elim, ℕ, ◌+◌, ◌<◌, ◌≤◌, List, [], ◌∷◌, ◌++◌, length, map, Some}
+use Rattle.std.proofs.Common.{slice_get, sym, ap, ◌∙◌, subst, arith, append-nil, append_assoc}
+use Rattle.std.proofs.lemmas.List.Elements.{Contains-append_left, Contains-append_right}
+use Rattle.std.proofs.lemmas.List.Elements.{Contains-append_cases}
+use Rattle.std.proofs.lemmas.List.FromFn.{length-map-range_with_len, get_or-map-range_with_len}
+use Rattle.std.proofs.lemmas.List.FromFn.{map-range_with_len_more}
 use Rattle.std.proofs.lemmas.Option.{none-some, slice_get_past, slice_get_within}
 use Rattle.std.specs.List.{Contains, range_with_len}
 use Rattle.plex_num.proofs.Members.{first_or_later, none_in, first_is, later_is}
@@ -24,15 +27,25 @@ use Rattle.fact_flows.proofs.Peopled.{point_stands}
 pub numbered_begin : (m : Numbered) (old now : List Slot) → now ≡ old → now ≡ old ++ map (numbered_slot m) (range_with_len 0 0)
 numbered_begin m old now same = same ∙ sym (append-nil old)
 
-pub numbered_more : (m : Numbered) (n : ℕ) (s : Slot) (old now new : List Slot) → s ≡ numbered_slot m n → new ≡ now ++ s ∷ [] → now ≡ old ++ map (numbered_slot m) (range_with_len 0 n) → new ≡ old ++ map (numbered_slot m) (range_with_len 0 (n + 1))
+pub numbered_more : (m : Numbered) (n : ℕ) (s : Slot) (old now new : List Slot) → s ≡ numbered_slot m n
+    → new ≡ now ++ s ∷ [] → now ≡ old ++ map (numbered_slot m) (range_with_len 0 n)
+    → new ≡ old ++ map (numbered_slot m) (range_with_len 0 (n + 1))
 numbered_more m n s old now new is pushed before =
     let e : 0 + n ≡ n = omega arith in
-    pushed ∙ ap (λ l. l ++ s ∷ []) before ∙ append_assoc old (map (numbered_slot m) (range_with_len 0 n)) (s ∷ []) ∙ ap (λ z. old ++ (map (numbered_slot m) (range_with_len 0 n) ++ z ∷ [])) is ∙ ap (λ l. old ++ l) (sym (map-range_with_len_more (numbered_slot m) 0 n n e))
+    pushed ∙ ap (λ l. l ++ s ∷ []) before ∙ append_assoc old (map (numbered_slot m) (range_with_len 0 n)) (s ∷ [])
+    ∙ ap (λ z. old ++ (map (numbered_slot m) (range_with_len 0 n) ++ z ∷ [])) is
+    ∙ ap (λ l. old ++ l) (sym (map-range_with_len_more (numbered_slot m) 0 n n e))
 
-pub numbered_end : (m : Numbered) (n count : ℕ) (old now : List Slot) → n ≤ count → count ≤ n → now ≡ old ++ map (numbered_slot m) (range_with_len 0 n) → now ≡ old ++ map (numbered_slot m) (range_with_len 0 count)
+pub numbered_end : (m : Numbered) (n count : ℕ) (old now : List Slot) → n ≤ count → count ≤ n
+    → now ≡ old ++ map (numbered_slot m) (range_with_len 0 n)
+    → now ≡ old ++ map (numbered_slot m) (range_with_len 0 count)
 numbered_end m n count old now low high is = (let e : n ≡ count = omega arith in is ∙ ap (λ k. old ++ map (numbered_slot m) (range_with_len 0 k)) e)
 
-pub all_listed : (r : Row) (a b c d e f : List Slot) → a ≡ [] → b ≡ a ++ map (numbered_slot Temp) (range_with_len 0 r.temps) → c ≡ b ++ map (numbered_slot Given) (range_with_len 0 r.given) → d ≡ c ++ map (numbered_slot Answered) (range_with_len 0 r.answered) → e ≡ d ++ slot.Depth ∷ [] → f ≡ e ++ slot.Awaits ∷ [] → f ≡ row_slots r
+pub all_listed : (r : Row) (a b c d e f : List Slot) → a ≡ []
+    → b ≡ a ++ map (numbered_slot Temp) (range_with_len 0 r.temps)
+    → c ≡ b ++ map (numbered_slot Given) (range_with_len 0 r.given)
+    → d ≡ c ++ map (numbered_slot Answered) (range_with_len 0 r.answered) → e ≡ d ++ slot.Depth ∷ []
+    → f ≡ e ++ slot.Awaits ∷ [] → f ≡ row_slots r
 all_listed r a b c d e f none temps given answered depth awaits =
     let ts = map (numbered_slot Temp) (range_with_len 0 r.temps) in
     let gs = map (numbered_slot Given) (range_with_len 0 r.given) in
@@ -40,8 +53,11 @@ all_listed r a b c d e f none temps given answered depth awaits =
     let b' : b ≡ ts = temps ∙ ap (λ l. l ++ ts) none in
     let c' : c ≡ ts ++ gs = given ∙ ap (λ l. l ++ gs) b' in
     let d' : d ≡ ts ++ (gs ++ as') = answered ∙ ap (λ l. l ++ as') c' ∙ append_assoc ts gs as' in
-    let e' : e ≡ ts ++ (gs ++ (as' ++ slot.Depth ∷ [])) = depth ∙ ap (λ l. l ++ slot.Depth ∷ []) d' ∙ append_assoc ts (gs ++ as') (slot.Depth ∷ []) ∙ ap (λ l. ts ++ l) (append_assoc gs as' (slot.Depth ∷ [])) in
-    awaits ∙ ap (λ l. l ++ slot.Awaits ∷ []) e' ∙ append_assoc ts (gs ++ (as' ++ slot.Depth ∷ [])) (slot.Awaits ∷ []) ∙ ap (λ l. ts ++ l) (append_assoc gs (as' ++ slot.Depth ∷ []) (slot.Awaits ∷ []) ∙ ap (λ l. gs ++ l) (append_assoc as' (slot.Depth ∷ []) (slot.Awaits ∷ [])))
+    let e' : e ≡ ts ++ (gs ++ (as' ++ slot.Depth ∷ [])) = depth ∙ ap (λ l. l ++ slot.Depth ∷ []) d'
+    ∙ append_assoc ts (gs ++ as') (slot.Depth ∷ []) ∙ ap (λ l. ts ++ l) (append_assoc gs as' (slot.Depth ∷ [])) in
+    awaits ∙ ap (λ l. l ++ slot.Awaits ∷ []) e' ∙ append_assoc ts (gs ++ (as' ++ slot.Depth ∷ [])) (slot.Awaits ∷ [])
+    ∙ ap (λ l. ts ++ l) (append_assoc gs (as' ++ slot.Depth ∷ []) (slot.Awaits ∷ [])
+    ∙ ap (λ l. gs ++ l) (append_assoc as' (slot.Depth ∷ []) (slot.Awaits ∷ [])))
 
 -- which slots these are
 
@@ -74,7 +90,8 @@ listed_has r s c =
     (λ k. let i = in_numbered Given r.given s k in subst (RowHas r) i.is i.below)
     (λ k. ⊎_elim
     (λ l. let i = in_numbered Answered r.answered s l in subst (RowHas r) i.is i.below)
-    (λ l. ⊎_elim (λ e. subst (RowHas r) e tt) (λ m. ⊎_elim (λ e. subst (RowHas r) e tt) (λ n. absurd (none_in s n)) (first_or_later slot.Awaits s [] m)) (first_or_later slot.Depth s (slot.Awaits ∷ []) l))
+    (λ l. ⊎_elim (λ e. subst (RowHas r) e tt) (λ m. ⊎_elim (λ e. subst (RowHas r) e tt) (λ n. absurd (none_in s n))
+    (first_or_later slot.Awaits s [] m)) (first_or_later slot.Depth s (slot.Awaits ∷ []) l))
     (Contains-append_cases as' (slot.Depth ∷ slot.Awaits ∷ []) s k))
     (Contains-append_cases gs (as' ++ (slot.Depth ∷ slot.Awaits ∷ [])) s h))
     (Contains-append_cases ts (gs ++ (as' ++ (slot.Depth ∷ slot.Awaits ∷ []))) s c)
@@ -102,19 +119,29 @@ has_listed r s h = by s h
 
     by : (t : Slot) → RowHas r t → Contains (row_slots r) t
     by (slot.Temp n) lt = Contains-append_left ts (gs ++ (as' ++ (slot.Depth ∷ slot.Awaits ∷ []))) (slot.Temp n) (numbered_in Temp r.temps n lt)
-    by (slot.Given n) lt = past_temps (slot.Given n) (Contains-append_left gs (as' ++ (slot.Depth ∷ slot.Awaits ∷ [])) (slot.Given n) (numbered_in Given r.given n lt))
-    by (slot.Answered n) lt = past_given (slot.Answered n) (Contains-append_left as' (slot.Depth ∷ slot.Awaits ∷ []) (slot.Answered n) (numbered_in Answered r.answered n lt))
+    by (slot.Given n) lt = past_temps (slot.Given n)
+        (Contains-append_left gs (as' ++ (slot.Depth ∷ slot.Awaits ∷ [])) (slot.Given n)
+        (numbered_in Given r.given n lt))
+    by (slot.Answered n) lt = past_given (slot.Answered n)
+        (Contains-append_left as' (slot.Depth ∷ slot.Awaits ∷ []) (slot.Answered n)
+        (numbered_in Answered r.answered n lt))
     by slot.Depth u = past_answered slot.Depth (first_is slot.Depth (slot.Awaits ∷ []))
     by slot.Awaits u = past_answered slot.Awaits (later_is slot.Depth slot.Awaits (slot.Awaits ∷ []) (first_is slot.Awaits []))
 
-pub some_slots : (x : Exchange) (t : FlowTable) (p : ℕ) (r : Row) (slots : List Slot) → IsExchange x → IsFlowTable x t → slice_get t.rows p ≡ Some r → slots ≡ row_slots r → AreSlots x p slots
+pub some_slots : (x : Exchange) (t : FlowTable) (p : ℕ) (r : Row) (slots : List Slot) → IsExchange x → IsFlowTable x t
+    → slice_get t.rows p ≡ Some r → slots ≡ row_slots r → AreSlots x p slots
 some_slots x t p r slots kept table there is = record { exact = λ s. (from s, to s) }
   where
     from : (s : Slot) → Contains slots s → HasSlot x p s
     from s c =
         let below : p < length x.points = (let lt = slice_get_within t.rows p r there in let e = table.rows.each_point in omega (arith, lt, e)) in
         let at = point_stands x kept p below in
-        record { place = at.at; stands = at.stands; slot = slot_of_row x at.at r s (row_of x t p r at.at table there at.stands) (listed_has r s (subst (λ l. Contains l s) is c)) }
+        record {
+          place = at.at;
+          stands = at.stands;
+          slot = slot_of_row x at.at r s (row_of x t p r at.at table there at.stands)
+              (listed_has r s (subst (λ l. Contains l s) is c));
+        }
 
     to : (s : Slot) → HasSlot x p s → Contains slots s
     to s h = subst (λ l. Contains l s) (sym is) (has_listed r s (row_of_slot x h.place r s (row_of x t p r h.place table there h.stands) h.slot))

@@ -19,7 +19,8 @@ pub record OneGives {A : Type 0} (G : A → Fact → Type 0) (xs : List A) (f : 
   pub gives : G one f
 
 -- the flow to a point does
-pub record FlowsTo (x : Exchange) (P : Facts) (e p : ℕ) (how : Passing) (q : ℕ) (f : Fact) : Type 0 where
+pub record FlowsTo (x : Exchange) (P : Facts) (e p : ℕ) (how : Passing) (q : ℕ) (f : Fact) : Type
+    0 where
   pub entry : f.entry ≡ e
   pub point : f.point ≡ q
   pub guarded : Guarded P e p q how

@@ -21,4 +21,7 @@ numbered_slot Answered n = slot.Answered n
 -- those that a row tells
 abbrev pub row_slots : Row → List Slot
 row_slots r =
-    map (numbered_slot Temp) (range_with_len 0 r.temps) ++ (map (numbered_slot Given) (range_with_len 0 r.given) ++ (map (numbered_slot Answered) (range_with_len 0 r.answered) ++ (slot.Depth ∷ slot.Awaits ∷ [])))
+    map (numbered_slot Temp) (range_with_len 0 r.temps)
+    ++ (map (numbered_slot Given) (range_with_len 0 r.given)
+    ++ (map (numbered_slot Answered) (range_with_len 0 r.answered)
+    ++ (slot.Depth ∷ slot.Awaits ∷ [])))

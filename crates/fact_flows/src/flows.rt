@@ -12,8 +12,8 @@ use flow_table::{FlowTable, KnownFacts, is_guarded, push_flow};
 use plex_num::{Memory, Seq};
 use std::alloc::Global;
 
-/// Appends what flows from a point that is reached to another one, in a job of the entry; nothing where the flow asks for more than
-/// that, and this is not so.
+/// Appends what flows from a point that is reached to another one, in a job of the entry; nothing
+/// where the flow asks for more than that, and this is not so.
 #[tactic(auto, using(crate::proofs::Flowing::not_guarded, crate::proofs::Flowing::guarded_flow))]
 pub fn push_flow_to<K: KnownFacts>(
     alloc: Global,

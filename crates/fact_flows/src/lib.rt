@@ -1,8 +1,9 @@
 // What facts give: the rules by which facts flow, one flow at a time.
 //
-// What goes in: an exchange with its flow table, and facts that are known, however they are kept. What comes out: all facts that
-// one flow gives, or the start of a job at its entry, in a job of one entry, and no others; and a proof of which flows lead from a
-// point. It knows neither which facts have been seen before nor in which order points are looked at.
+// What goes in: an exchange with its flow table, and facts that are known, however they are kept.
+// What comes out: all facts that one flow gives, or the start of a job at its entry, in a job of
+// one entry, and no others; and a proof of which flows lead from a point. It knows neither which
+// facts have been seen before nor in which order points are looked at.
 #![tactic(auto)]
 
 mod flows;

@@ -45,7 +45,8 @@ pub fn push_given_at_start<K: KnownFacts>(
     }
 }
 
-/// Appends what the start of a job, whose signal has so many values, gives to these slots before its point.
+/// Appends what the start of a job, whose signal has so many values, gives to these slots before
+/// its point.
 fn push_starts<K: KnownFacts>(
     alloc: Global,
     known: &K,

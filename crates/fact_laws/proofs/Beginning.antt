@@ -1,5 +1,6 @@
 -- Closed facts cover a job as it begins.
-use Rattle.std.proofs.Common.{◌≡◌, inl, ℕ, Bool, true, false, List, [], length, Option, Some, None, refl, sym, ap, ◌∙◌, subst, slice_get, arith}
+use Rattle.std.proofs.Common.{◌≡◌, inl, ℕ, Bool, true, false, List, [], length, Option, Some, None}
+use Rattle.std.proofs.Common.{refl, sym, ap, ◌∙◌, subst, slice_get, arith}
 use Rattle.std.proofs.lemmas.Bool.{ltb-false}
 use Rattle.std.proofs.lemmas.Option.{same_Some}
 use Rattle.std.specs.Prelude.{nat_lt, slice_index, if◌then◌else◌}
@@ -30,25 +31,38 @@ use Rattle.fact_laws.proofs.Carrying.{Gets, Target, has_slot, temp_slot, given_s
 use Rattle.fact_laws.proofs.Rows.{enter_fits}
 use Rattle.fact_laws.proofs.Standing.{row_target}
 
-module _ (x : Exchange) (kept : IsExchange x) (P : Facts) (closed : IsClosed x P) (n : ℕ) (entry : Entry) (there : slice_get x.entries n ≡ Some entry) (values : List ℕ) (count : length values ≡ value_count x entry.signal) where
+module _ (x : Exchange) (kept : IsExchange x) (P : Facts) (closed : IsClosed x P) (n : ℕ) (entry : Entry)
+    (there : slice_get x.entries n ≡ Some entry) (values : List ℕ)
+    (count : length values ≡ value_count x entry.signal) where
   as_begun : BeginsAs x entry
   as_begun = entry_begins x kept n entry there
 
   entry_target : Target x entry.block entry.point
   entry_target = subst (Target x entry.block) as_begun.point (row_target as_begun.begins.row)
 
-  start_gives : (s : Slot) (v : Value) → HasSlot x entry.point s → SourceGives P n entry.point (start_source (value_count x entry.signal) s) v → Known P n entry.point s v
+  start_gives : (s : Slot) (v : Value) → HasSlot x entry.point s
+      → SourceGives P n entry.point (start_source (value_count x entry.signal) s) v → Known P n entry.point s v
   start_gives s v slot g = closed (fact n entry.point s v) (inl (record { entry = entry; there = there; lands = refl; slot = slot; gives = g }))
 
   -- an entry value is one that the job started with, or 0
-  given_gets : (k : ℕ) (b : Bool) → nat_lt k (value_count x entry.signal) ≡ b → Gets P n values entry.point (if b then Is (Arg k) else Is (Const 0)) (slice_index (eight values) k)
+  given_gets : (k : ℕ) (b : Bool) → nat_lt k (value_count x entry.signal) ≡ b
+      → Gets P n values entry.point (if b then Is (Arg k) else Is (Const 0)) (slice_index (eight values) k)
   given_gets k true is = (Arg k, refl, index_eight values k)
-  given_gets k false is = (Const 0, refl, index_eight values k ∙ index_past values k (let le = ltb-false k (value_count x entry.signal) is in omega (arith, le, count)))
+  given_gets k false is = (
+    Const 0,
+    refl,
+    index_eight values k
+        ∙ index_past values k (let le = ltb-false k (value_count x entry.signal) is in omega (arith, le, count)),
+  )
 
   pub entry_known : Activation x P n values entry.block entry.point blank (eight values) []
   entry_known = record {
     temp = λ t l. (Const 0, start_gives (Temp t) (Const 0) (temp_slot x P closed n values entry.block entry.point t entry_target l) refl, index_blank t);
-    gave = λ k l. (let g = given_gets k (nat_lt k (value_count x entry.signal)) refl in (g.0, start_gives (Given k) g.0 (given_slot x P closed n values entry.block entry.point k entry_target l) g.1, g.2));
+    gave = λ k l. (let g = given_gets k (nat_lt k (value_count x entry.signal)) refl in (
+      g.0,
+      start_gives (Given k) g.0 (given_slot x P closed n values entry.block entry.point k entry_target l) g.1,
+      g.2,
+    ));
     past = λ k le.
         (let few = enter_fits x kept entry.block entry.signal as_begun.begins.stmt as_begun.begins.rest None as_begun.begins.row as_begun.begins.enters in
         index_eight values k ∙ index_past values k (omega (arith, le, few, count)));
@@ -70,12 +84,16 @@ module _ (x : Exchange) (kept : IsExchange x) (P : Facts) (closed : IsClosed x P
   pub found_plain : (found : Option Entry) → found ≡ Some entry → (m : ℕ) → IsRetrieveOf m (todo_of x found) → ⊥
   found_plain found is m h = no_retrieve m (subst (λ o. IsRetrieveOf m (todo_of x o)) is h)
 
-pub start_covered : (x : Exchange) → IsExchange x → (P : Facts) → IsClosed x P → (start : JobStart) (store : List ℕ) → IsJob x start.job → Covered x P start.job.entry start.job.values (begins x start store)
+pub start_covered : (x : Exchange) → IsExchange x → (P : Facts) → IsClosed x P → (start : JobStart) (store : List ℕ)
+    → IsJob x start.job → Covered x P start.job.entry start.job.values (begins x start store)
 start_covered x kept P closed start store job =
     let e = some_at x.entries start.job.entry job.entry in
-    let count : length start.job.values ≡ value_count x e.0.signal = job.values ∙ ap (λ o. option_map_or (λ (e : Entry). option_map_or signal_count (slice_get x.signals e.signal) 0) o 0) e.1 in
+    let count : length start.job.values ≡ value_count x e.0.signal = job.values
+    ∙ ap (λ o. option_map_or (λ (e : Entry). option_map_or signal_count (slice_get x.signals e.signal) 0) o 0) e.1
+    in
     record {
       here = found_covered x kept P closed start.job.entry e.0 e.1 start.job.values count (slice_get x.entries start.job.entry) e.1;
-      answers = λ m p k is at lt. absurd (found_plain x kept P closed start.job.entry e.0 e.1 start.job.values count (slice_get x.entries start.job.entry) e.1 m is);
+      answers = λ m p k is at lt. absurd (found_plain x kept P closed start.job.entry e.0 e.1 start.job.values count
+          (slice_get x.entries start.job.entry) e.1 m is);
       waiting = tt;
     }

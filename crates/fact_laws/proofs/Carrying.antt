@@ -1,5 +1,6 @@
 -- How the values of an activation go along a flow, and that they are known at its end.
-use Rattle.std.proofs.Common.{◌≡◌, ◌≢◌, inr, ℕ, suc, ◌+◌, ◌<◌, ◌≤◌, Bool, true, false, List, [], ◌∷◌, length, refl, sym, ap, ◌∙◌, subst, arith}
+use Rattle.std.proofs.Common.{◌≡◌, ◌≢◌, inr, ℕ, suc, ◌+◌, ◌<◌, ◌≤◌, Bool, true, false, List, []}
+use Rattle.std.proofs.Common.{◌∷◌, length, refl, sym, ap, ◌∙◌, subst, arith}
 use Rattle.std.proofs.lemmas.Bool.{eqb-true, eqb-false}
 use Rattle.std.proofs.lemmas.List.{get_or-set_same, get_or-set_other}
 use Rattle.std.proofs.Math.ListN.{length-set}
@@ -27,7 +28,8 @@ abbrev pub Gets : Facts → ℕ → List ℕ → ℕ → Source → ℕ → Type
 Gets P e args p s n = (v : Value) × SourceGives P e p s v × StandsFor args v n
 
 -- the sources give what an activation has, with so many temporaries and entry values
-pub record Carried (P : Facts) (e : ℕ) (args : List ℕ) (p : ℕ) (source : Slot → Source) (temp_many given_many : ℕ) (temps given : List ℕ) (callers : List Caller) : Type 0 where
+pub record Carried (P : Facts) (e : ℕ) (args : List ℕ) (p : ℕ) (source : Slot → Source) (temp_many given_many : ℕ)
+    (temps given : List ℕ) (callers : List Caller) : Type 0 where
   pub temp : (t : ℕ) → t < temp_many → Gets P e args p (source (Temp t)) (slice_index temps t)
   pub gave : (k : ℕ) → k < given_many → Gets P e args p (source (Given k)) (slice_index given k)
   pub depth : SourceGives P e p (source Depth) (Const (length callers))
@@ -63,16 +65,19 @@ module _ (P : Facts) (e : ℕ) (args : List ℕ) (p : ℕ) where
   gets_named (u ∷ ts) slot k t before values temps lt each h =
       let none : k + 0 ≡ k = omega arith in
       let long = length-set temps u (slice_index values k) in
-      let here : Gets P e args p (Of (slot k)) (slice_index values k) = subst (λ n. Gets P e args p (Of (slot n)) (slice_index values n)) none (each 0 (omega arith)) in
+      let here : Gets P e args p (Of (slot k)) (slice_index values k) = subst
+      (λ n. Gets P e args p (Of (slot n)) (slice_index values n)) none (each 0 (omega arith)) in
       gets_named ts slot (k + 1) t (if nat_eq t u then Of (slot k) else before) values (slice_set temps u (slice_index values k)) (omega (arith, lt, long))
-      (λ j l. let next : k + suc j ≡ k + 1 + j = omega arith in subst (λ n. Gets P e args p (Of (slot n)) (slice_index values n)) next (each (suc j) (omega (arith, l))))
+      (λ j l. let next : k + suc j ≡ k + 1 + j = omega arith in subst
+      (λ n. Gets P e args p (Of (slot n)) (slice_index values n)) next (each (suc j) (omega (arith, l))))
       (gets_set t u (slice_index values k) temps (Of (slot k)) before lt here h)
 
   module _ {x : Exchange} {b : ℕ} {temps given : List ℕ} {callers : List Caller} (a : Activation x P e args b p temps given callers) where
     pub carried_kept : Carried P e args p kept (temp_count x b) (given_count x b) temps given callers
     carried_kept = record { temp = a.temp; gave = a.gave; depth = a.depth; awaits = a.awaits }
 
-    pub carried_sets : (temp v : ℕ) (new : Source) → temp_count x b ≤ length temps → Gets P e args p new v → Carried P e args p (sets temp new) (temp_count x b) (given_count x b) (slice_set temps temp v) given callers
+    pub carried_sets : (temp v : ℕ) (new : Source) → temp_count x b ≤ length temps → Gets P e args p new v
+        → Carried P e args p (sets temp new) (temp_count x b) (given_count x b) (slice_set temps temp v) given callers
     carried_sets temp v new long g = record {
       temp = λ t l. gets_set t temp v temps new (Of (Temp t)) (omega (arith, l, long)) g (a.temp t l);
       gave = a.gave;
@@ -81,7 +86,9 @@ module _ (P : Facts) (e : ℕ) (args : List ℕ) (p : ℕ) where
     }
 
     -- a temporary that may get any number gets one, or none
-    pub carried_any : (temp v : ℕ) → temp_count x b ≤ length temps → Carried P e args p (sets temp (Is Any)) (temp_count x b) (given_count x b) (slice_set temps temp v) given callers
+    pub carried_any : (temp v : ℕ) → temp_count x b ≤ length temps
+        → Carried P e args p (sets temp (Is Any)) (temp_count x b) (given_count x b) (slice_set temps temp v) given
+        callers
     carried_any temp v long = carried_sets temp v (Is Any) long (gets_any v)
 
     pub carried_either : (temp : ℕ) → Carried P e args p (sets temp (Is Any)) (temp_count x b) (given_count x b) temps given callers
@@ -92,16 +99,20 @@ module _ (P : Facts) (e : ℕ) (args : List ℕ) (p : ℕ) where
       awaits = a.awaits;
     }
 
-    pub carried_takes : (ts : List ℕ) (slot : ℕ → Slot) (values : List ℕ) → temp_count x b ≤ length temps → ((j : ℕ) → j < length ts → Gets P e args p (Of (slot j)) (slice_index values j))
+    pub carried_takes : (ts : List ℕ) (slot : ℕ → Slot) (values : List ℕ) → temp_count x b ≤ length temps
+        → ((j : ℕ) → j < length ts → Gets P e args p (Of (slot j)) (slice_index values j))
         → Carried P e args p (takes_source ts slot) (temp_count x b) (given_count x b) (takes 0 ts values temps) given callers
     carried_takes ts slot values long each = record {
-      temp = λ t l. gets_named ts slot 0 t (Of (Temp t)) values temps (omega (arith, l, long)) (λ j k. let none : j ≡ 0 + j = omega arith in subst (λ n. Gets P e args p (Of (slot n)) (slice_index values n)) none (each j k)) (a.temp t l);
+      temp = λ t l. gets_named ts slot 0 t (Of (Temp t)) values temps (omega (arith, l, long))
+          (λ j k. let none : j ≡ 0 + j = omega arith in subst
+          (λ n. Gets P e args p (Of (slot n)) (slice_index values n)) none (each j k)) (a.temp t l);
       gave = a.gave;
       depth = a.depth;
       awaits = a.awaits;
     }
 
-  pub carried_begins : (source : ℕ → Source) (depth awaits : Source) (temp_many given_many : ℕ) (given : List ℕ) (callers : List Caller) → ((k : ℕ) → k < given_many → Gets P e args p (source k) (slice_index given k))
+  pub carried_begins : (source : ℕ → Source) (depth awaits : Source) (temp_many given_many : ℕ) (given : List ℕ)
+      (callers : List Caller) → ((k : ℕ) → k < given_many → Gets P e args p (source k) (slice_index given k))
       → SourceGives P e p depth (Const (length callers)) → SourceGives P e p awaits (Const (awaits_of callers))
       → Carried P e args p (begins source depth awaits) temp_many given_many blank given callers
   carried_begins source depth awaits temp_many given_many given callers each d w = record {
@@ -125,7 +136,8 @@ module _ (x : Exchange) (P : Facts) (closed : IsClosed x P) (e : ℕ) (args : Li
     pub reached : Reached P e at.point
     pub guarded : Guarded P e at.point q how
 
-  pub flowing_gives : (at : Place) (q : ℕ) (how : Passing) → Flowing at q how → (s : Slot) (v : Value) → HasSlot x q s → SourceGives P e at.point (source_of how s) v → Known P e q s v
+  pub flowing_gives : (at : Place) (q : ℕ) (how : Passing) → Flowing at q how → (s : Slot) (v : Value) → HasSlot x q s
+      → SourceGives P e at.point (source_of how s) v → Known P e q s v
   flowing_gives at q how f s v slot g =
       closed (fact e q s v) (inr (
         at.point,
@@ -148,7 +160,8 @@ module _ (x : Exchange) (P : Facts) (closed : IsClosed x P) (e : ℕ) (args : Li
 
   -- what goes along a flow is known at its end
   pub lands : (at : Place) (q : ℕ) (how : Passing) → Flowing at q how → (b : ℕ) (temps given : List ℕ) (callers : List Caller) → Target x b q
-      → Carried P e args at.point (source_of how) (temp_count x b) (given_count x b) temps given callers → ((k : ℕ) → given_count x b ≤ k → slice_index given k ≡ 0)
+      → Carried P e args at.point (source_of how) (temp_count x b) (given_count x b) temps given callers
+      → ((k : ℕ) → given_count x b ≤ k → slice_index given k ≡ 0)
       → Activation x P e args b q temps given callers
   lands at q how f b temps given callers target h past = record {
     temp = λ t l. (let g = h.temp t l in (g.0, flowing_gives at q how f (Temp t) g.0 (temp_slot b q t target l) g.1, g.2));

@@ -1,5 +1,6 @@
 -- What a list of numbers has at a place: padded with zeros, past its end, and in front.
-use Rattle.std.proofs.Common.{◌≡◌, ℕ, zero, suc, ◌<◌, ◌≤◌, List, [], ◌∷◌, ◌++◌, length, take, refl, arith}
+use Rattle.std.proofs.Common.{◌≡◌, ℕ, zero, suc, ◌<◌, ◌≤◌, List, [], ◌∷◌, ◌++◌, length, take, refl}
+use Rattle.std.proofs.Common.{arith}
 use Rattle.std.specs.Prelude.{slice_index, replicate}
 use Rattle.source_meaning.specs.Config.{blank}
 use Rattle.job_types.specs.Own.{eight}

@@ -1,5 +1,6 @@
 -- No RETRIEVE is done but right after its SEND, where the answer came.
-use Rattle.std.proofs.Common.{◌≡◌, ℕ, ◌+◌, Bool, true, false, List, [], ◌∷◌, ◌++◌, map, Option, Some, None, refl, sym, ap, ◌∙◌, subst, slice_get}
+use Rattle.std.proofs.Common.{◌≡◌, ℕ, ◌+◌, Bool, true, false, List, [], ◌∷◌, ◌++◌, map, Option}
+use Rattle.std.proofs.Common.{Some, None, refl, sym, ap, ◌∙◌, subst, slice_get}
 use Rattle.std.proofs.lemmas.Option.{none-some}
 use Rattle.std.specs.Prelude.{if◌then◌else◌, nat_lt}
 use Rattle.std.specs.List.{AllByRecursion}
@@ -7,18 +8,25 @@ use Rattle.job_types.specs.declared.job.JobStart.{JobStart}
 use Rattle.exchange_model.specs.declared.exchange.Exchange.{Exchange}
 use Rattle.exchange_model.specs.declared.entry.Entry.{Entry}
 use Rattle.exchange_model.specs.declared.signal.SignalKind.{SignalKind}
-use Rattle.exchange_model.specs.declared.signal.SignalKind.TheVariants.{Buffered, Direct, Combined, Answer, Outside}
+use Rattle.exchange_model.specs.declared.signal.SignalKind.TheVariants.{Buffered, Direct, Combined}
+use Rattle.exchange_model.specs.declared.signal.SignalKind.TheVariants.{Answer, Outside}
 use Rattle.exchange_model.specs.declared.stmt.Stmt.{Stmt}
 use Rattle.exchange_model.specs.declared.stmt.StmtKind.{out-StmtKind}
 use Rattle.exchange_model.specs.declared.stmt.StmtKind.TheOpen as stmt
 use Rattle.exchange_model.specs.Fits.{ArePaired, answer_of, awaited, retrieved}
 use Rattle.exchange_model.specs.Kept.{IsExchange, entered, scope_of}
 use Rattle.source_meaning.specs.Named.{Layer}
-use Rattle.source_meaning.specs.Config.{Item, Do, Start, Turns, Caller, Config, from_signal, from_place, label_of, next_counted}
+use Rattle.source_meaning.specs.Config.{Item, Do, Start, Turns, Caller, Config, from_signal}
+use Rattle.source_meaning.specs.Config.{from_place, label_of, next_counted}
 use Rattle.exchange_model.specs.Kept.{is_enter}
 use Rattle.source_meaning.specs.Changes.{ends}
-use Rattle.source_meaning.specs.Deeds.{Deed, Doing, Starting, Turning, deed_of, label_in, GoesOnAfter, MayGoOn, IsBranch, IsAsking, by_combined, GoesOn, to_next, with_value, to_label, to_branch, to_loop, to_turn, with_found, with_seized, with_answers, with_given, from_no_enter}
-use Rattle.source_meaning.specs.Effects.{Effect, Looks, Goes, Leave, Begins, Asks, Returns, Ends, Faults}
+use Rattle.source_meaning.specs.Deeds.{Deed, Doing, Starting, Turning, deed_of, label_in}
+use Rattle.source_meaning.specs.Deeds.{GoesOnAfter, MayGoOn, IsBranch, IsAsking, by_combined}
+use Rattle.source_meaning.specs.Deeds.{GoesOn, to_next, with_value, to_label, to_branch, to_loop}
+use Rattle.source_meaning.specs.Deeds.{to_turn, with_found, with_seized, with_answers, with_given}
+use Rattle.source_meaning.specs.Deeds.{from_no_enter}
+use Rattle.source_meaning.specs.Effects.{Effect, Looks, Goes, Leave, Begins, Asks, Returns, Ends}
+use Rattle.source_meaning.specs.Effects.{Faults}
 use Rattle.source_meaning.specs.Job.{begins, after_steps, todo_of}
 use Rattle.source_meaning.specs.Rests.{AreRests, DeedStands, IsRetrieveOf, BeginsAt, JumpsTo}
 use Rattle.source_meaning.proofs.Activating.{entry_begins}
@@ -29,7 +37,8 @@ use Rattle.source_meaning.proofs.Receiving.{beginning_received, asking_received}
 use Rattle.source_meaning.proofs.Rests.{DeedRest, rests_kept, start_rests}
 use Rattle.fact_laws.proofs.Rows.{branch_inner}
 
--- the first of these items is the RETRIEVE of this answer, or none, and each other one stands after its SEND
+-- the first of these items is the RETRIEVE of this answer, or none, and each other one stands after
+-- its SEND
 abbrev pub PairedItems : List SignalKind → Option ℕ → List Item → Type 0
 PairedItems signals answer [] = answer ≡ None
 PairedItems signals answer (Do s ∷ rest) = (retrieved (out-StmtKind s.kind) ≡ answer) × PairedItems signals (awaited signals (out-StmtKind s.kind)) rest
@@ -62,7 +71,8 @@ module _ (signals : List SignalKind) where
   text_paired answer [] h = h
   text_paired answer (s ∷ list) h = (h.0, text_paired (awaited signals (out-StmtKind s.kind)) list h.1)
 
-  row_before : (answer : Option ℕ) (list : List Stmt) (rest : List Item) → ArePaired signals answer list → PairedItems signals None rest → PairedItems signals answer (map Do list ++ rest)
+  row_before : (answer : Option ℕ) (list : List Stmt) (rest : List Item) → ArePaired signals answer list
+      → PairedItems signals None rest → PairedItems signals answer (map Do list ++ rest)
   row_before answer [] rest h after = subst (λ o. PairedItems signals o rest) (sym h) after
   row_before answer (s ∷ list) rest h after = (h.0, row_before (awaited signals (out-StmtKind s.kind)) list rest h.1 after)
 
@@ -91,7 +101,9 @@ module _ (signals : List SignalKind) where
   none_retrieved [] m h is = is
   none_retrieved (Do s ∷ more) m h is = by (is_enter (out-StmtKind s.kind)) refl is (λ paired. none_retrieved more m paired)
     where
-      by : (t : Bool) → is_enter (out-StmtKind s.kind) ≡ t → IsRetrieveOf m (if t then next_counted more else Do s ∷ more) → (PairedItems signals None more → IsRetrieveOf m (next_counted more) → ⊥) → ⊥
+      by : (t : Bool) → is_enter (out-StmtKind s.kind) ≡ t
+          → IsRetrieveOf m (if t then next_counted more else Do s ∷ more)
+          → (PairedItems signals None more → IsRetrieveOf m (next_counted more) → ⊥) → ⊥
       by true enter at past = past (subst (λ o. PairedItems signals o more) (enter_awaits signals (out-StmtKind s.kind) enter) h.1) at
       by false enter at past = none-some m (sym h.0 ∙ at)
   none_retrieved (Start s ∷ more) m h is = is
@@ -102,18 +114,22 @@ module _ (signals : List SignalKind) where
       by false at past = at
 
   -- so a RETRIEVE that is counted is the first item
-  pub retrieve_first : (answer : Option ℕ) (todo : List Item) (m : ℕ) → PairedItems signals answer todo → IsRetrieveOf m (next_counted todo) → next_counted todo ≡ todo
+  pub retrieve_first : (answer : Option ℕ) (todo : List Item) (m : ℕ) → PairedItems signals answer todo
+      → IsRetrieveOf m (next_counted todo) → next_counted todo ≡ todo
   unfolding next_counted
   retrieve_first answer [] m h is = refl
   retrieve_first answer (Do s ∷ more) m h is = by (is_enter (out-StmtKind s.kind)) refl is
     where
-      by : (t : Bool) → is_enter (out-StmtKind s.kind) ≡ t → IsRetrieveOf m (if t then next_counted more else Do s ∷ more) → (if t then next_counted more else Do s ∷ more) ≡ Do s ∷ more
+      by : (t : Bool) → is_enter (out-StmtKind s.kind) ≡ t
+          → IsRetrieveOf m (if t then next_counted more else Do s ∷ more)
+          → (if t then next_counted more else Do s ∷ more) ≡ Do s ∷ more
       by true enter at = absurd (none_retrieved more m (subst (λ o. PairedItems signals o more) (enter_awaits signals (out-StmtKind s.kind) enter) h.1) at)
       by false enter at = refl
   retrieve_first answer (Start s ∷ more) m h is = refl
   retrieve_first answer (Turns p temp this end body ∷ more) m h is = by (nat_lt end this) is
     where
-      by : (t : Bool) → IsRetrieveOf m (if t then next_counted more else Turns p temp this end body ∷ more) → (if t then next_counted more else Turns p temp this end body ∷ more) ≡ Turns p temp this end body ∷ more
+      by : (t : Bool) → IsRetrieveOf m (if t then next_counted more else Turns p temp this end body ∷ more)
+          → (if t then next_counted more else Turns p temp this end body ∷ more) ≡ Turns p temp this end body ∷ more
       by true at = absurd (none_retrieved more m h.1 at)
       by false at = refl
 
@@ -143,21 +159,29 @@ module _ (x : Exchange) (kept : IsExchange x) where
 
   jump_paired : (b label : ℕ) → JumpsTo x b label → PairedItems x.signals None (from_place x b (label_of x b label))
   jump_paired b label j =
-      subst (PairedItems x.signals None) (sym j.is) (j.plain, text_paired x.signals (awaited x.signals (out-StmtKind j.stmt.kind)) j.rest (row_paired x kept b j.stmt j.rest None j.row))
+      subst (PairedItems x.signals None) (sym j.is) (
+        j.plain,
+        text_paired x.signals (awaited x.signals (out-StmtKind j.stmt.kind)) j.rest
+            (row_paired x kept b j.stmt j.rest None j.row),
+      )
 
   pub begun_paired : (b signal : ℕ) → BeginsAt x b signal → PairedItems x.signals None (from_signal x b signal)
   begun_paired b signal h =
       let after : ArePaired x.signals None h.rest =
-      subst (λ o. ArePaired x.signals o h.rest) (entered_awaits x.signals (out-StmtKind h.stmt.kind) signal h.enters) (row_paired x kept b h.stmt h.rest None h.row) in
+      subst (λ o. ArePaired x.signals o h.rest) (entered_awaits x.signals (out-StmtKind h.stmt.kind) signal h.enters)
+      (row_paired x kept b h.stmt h.rest None h.row) in
       subst (PairedItems x.signals None) (sym h.is) (refl, text_paired x.signals None h.rest after)
 
-  pub goes_paired : (rest : List Item) (c : Config) (deed : Deed) (todo : List Item) (temps : List ℕ) → DeedStands x c.block deed rest → AfterPaired x.signals deed rest → GoesOn x rest c deed todo temps → PairedItems x.signals None todo
+  pub goes_paired : (rest : List Item) (c : Config) (deed : Deed) (todo : List Item) (temps : List ℕ)
+      → DeedStands x c.block deed rest → AfterPaired x.signals deed rest → GoesOn x rest c deed todo temps
+      → PairedItems x.signals None todo
   goes_paired rest c deed todo temps at after (to_next p {l = l} may) = subst (λ o. PairedItems x.signals o rest) (may_none x l may) after.0
   goes_paired rest c deed todo temps at after (with_value p temp e v is) = after.0
   goes_paired rest c deed todo temps at after (to_label p {l = l} label is) = jump_paired c.block label (jump_found c.block p l rest label at is)
   goes_paired rest c deed todo temps at after (to_branch p {l = l} body is) =
       let f = deed_fits_in x kept c.block p l rest at in
-      row_before x.signals None body rest (branch_inner (scope_of x c.block f.block) l body f.fits.lists is).1 (subst (λ o. PairedItems x.signals o rest) (branch_none x.signals l body is) after.0)
+      row_before x.signals None body rest (branch_inner (scope_of x c.block f.block) l body f.fits.lists is).1
+      (subst (λ o. PairedItems x.signals o rest) (branch_none x.signals l body is) after.0)
   goes_paired rest c deed todo temps at after (to_loop p temp from upto body a b first last) = (refl, after.0)
   goes_paired rest c deed todo temps at after (to_turn p temp this end body) =
       let f = loop_fits_in x kept c.block p temp body rest at.0 in
@@ -169,23 +193,34 @@ module _ (x : Exchange) (kept : IsExchange x) where
   goes_paired rest c deed todo temps at after (with_given p signal ts) = after
   goes_paired rest c deed todo temps at after (from_no_enter p other) = after
 
-  effect_pairs : (deed : Deed) (rest : List Item) (c d : Config) → DeedStands x c.block deed rest → AfterPaired x.signals deed rest → Pairs x c → Effect x deed rest c d → Pairs x d
-  effect_pairs deed rest c d at after h (Goes e todo temps on) = record { answer = None; here = goes_paired rest c deed todo temps at after on; callers = h.callers }
+  effect_pairs : (deed : Deed) (rest : List Item) (c d : Config) → DeedStands x c.block deed rest
+      → AfterPaired x.signals deed rest → Pairs x c → Effect x deed rest c d → Pairs x d
+  effect_pairs deed rest c d at after h (Goes e todo temps on) = record
+      { answer = None; here = goes_paired rest c deed todo temps at after on; callers = h.callers }
   effect_pairs deed rest c d at after h (Looks e loads each) = record { answer = h.answer; here = h.here; callers = h.callers }
   effect_pairs deed rest c d at after h _ = record { answer = h.answer; here = h.here; callers = h.callers }
 
-  asking_pairs : (c : Config) (deed : Deed) (rest : List Item) (b signal answer : ℕ) (vs : List ℕ) → AfterPaired x.signals deed rest → IsAsking x c deed b signal answer vs → PairedItems x.signals (Some answer) rest
-  asking_pairs c deed rest b signal answer vs after (by_combined p s to values fresh name count a n ws kind sending) = subst (λ o. PairedItems x.signals o rest) (ap answer_of kind) after.0
+  asking_pairs : (c : Config) (deed : Deed) (rest : List Item) (b signal answer : ℕ) (vs : List ℕ)
+      → AfterPaired x.signals deed rest → IsAsking x c deed b signal answer vs
+      → PairedItems x.signals (Some answer) rest
+  asking_pairs c deed rest b signal answer vs after (by_combined p s to values fresh name count a n ws kind sending) =
+      subst (λ o. PairedItems x.signals o rest) (ap answer_of kind) after.0
 
-  leave_pairs : (deed : Deed) (rest : List Item) (c d : Config) → DeedStands x c.block deed rest → AfterPaired x.signals deed rest → Pairs x c → Leave x deed rest c d → Pairs x d
-  leave_pairs deed rest c d at after h (Begins e b signal vs is) = record { answer = None; here = begun_paired b signal (beginning_received x kept c deed rest b signal vs at is); callers = h.callers }
+  leave_pairs : (deed : Deed) (rest : List Item) (c d : Config) → DeedStands x c.block deed rest
+      → AfterPaired x.signals deed rest → Pairs x c → Leave x deed rest c d → Pairs x d
+  leave_pairs deed rest c d at after h (Begins e b signal vs is) = record {
+    answer = None;
+    here = begun_paired b signal (beginning_received x kept c deed rest b signal vs at is);
+    callers = h.callers;
+  }
   leave_pairs deed rest c d at after h (Asks e b signal answer vs is room) = record {
     answer = None;
     here = begun_paired b signal (asking_received x kept c deed rest b signal answer vs at is);
     callers = (asking_pairs c deed rest b signal answer vs after is, h.callers);
   }
   leave_pairs deed rest c d at after h (Returns e p answer values vs k ks is given some same) =
-      let waiting : AllByRecursion (λ (k : Caller). PairedItems x.signals (Some k.awaits) k.todo) (k ∷ ks) = subst (AllByRecursion (λ (k : Caller). PairedItems x.signals (Some k.awaits) k.todo)) some h.callers in
+      let waiting : AllByRecursion (λ (k : Caller). PairedItems x.signals (Some k.awaits) k.todo) (k ∷ ks) = subst
+      (AllByRecursion (λ (k : Caller). PairedItems x.signals (Some k.awaits) k.todo)) some h.callers in
       record { answer = Some k.awaits; here = waiting.0; callers = waiting.1 }
   leave_pairs deed rest c d at after h (Ends e p l is end none) = record { answer = h.answer; here = h.here; callers = h.callers }
   leave_pairs deed rest c d at after h (Faults e f why) = record { answer = h.answer; here = h.here; callers = h.callers }

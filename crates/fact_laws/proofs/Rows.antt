@@ -1,5 +1,7 @@
--- Where a signal has an ENTER in the text of a block, the block receives it, and has as many entry values as it has values.
-use Rattle.std.proofs.Common.{◌≡◌, inl, inr, ℕ, ◌+◌, ◌≤◌, Bool, true, false, List, [], ◌∷◌, map, Option, Some, None, refl, sym, ap, ◌∙◌, subst, slice_get, arith}
+-- Where a signal has an ENTER in the text of a block, the block receives it, and has as many entry
+-- values as it has values.
+use Rattle.std.proofs.Common.{◌≡◌, inl, inr, ℕ, ◌+◌, ◌≤◌, Bool, true, false, List, [], ◌∷◌, map}
+use Rattle.std.proofs.Common.{Option, Some, None, refl, sym, ap, ◌∙◌, subst, slice_get, arith}
 use Rattle.std.proofs.lemmas.Bool.{eqb-true, eq-eqb}
 use Rattle.std.specs.Prelude.{nat_eq, ◌||◌}
 use Rattle.std.specs.List.{AllByRecursion, list_any, cons_option}
@@ -29,7 +31,8 @@ use Rattle.plex_num.proofs.Lists.{all_weaker}
 abbrev TellsOf : List Row → Stmt → Type 0
 TellsOf rows s = (signal : ℕ) → entered (out-StmtKind s.kind) ≡ Some signal → list_any (λ (r : Row). nat_eq r.signal signal) rows ≡ true
 
-any_more : (o : Option Row) (rows : List Row) (signal : ℕ) → list_any (λ (r : Row). nat_eq r.signal signal) rows ≡ true → list_any (λ (r : Row). nat_eq r.signal signal) (cons_option o rows) ≡ true
+any_more : (o : Option Row) (rows : List Row) (signal : ℕ) → list_any (λ (r : Row). nat_eq r.signal signal) rows ≡ true
+    → list_any (λ (r : Row). nat_eq r.signal signal) (cons_option o rows) ≡ true
 any_more None rows signal h = h
 any_more (Some r) rows signal h = by (nat_eq r.signal signal)
   where
@@ -50,8 +53,11 @@ unfolding enters_from
 text_told from [] = tt
 text_told from (s ∷ body) =
     let rows = enters_from (from + 1) body in
-    let o = row_at (entered (out-StmtKind s.kind)) from in
-    (first_told from s rows, all_weaker (TellsOf rows) (TellsOf (cons_option o rows)) body (λ t h signal is. any_more o rows signal (h signal is)) (text_told (from + 1) body))
+    let o = row_at (entered (out-StmtKind s.kind)) from in (
+      first_told from s rows,
+      all_weaker (TellsOf rows) (TellsOf (cons_option o rows)) body
+          (λ t h signal is. any_more o rows signal (h signal is)) (text_told (from + 1) body),
+    )
 
 -- a statement inside another one is no ENTER
 inner_told : (l : Layer) (signal : ℕ) → is_inner l ≡ true → entered l ≡ Some signal → ⊥
@@ -69,7 +75,8 @@ branch_inner scope _ body lists is = absurd is
 
 inside_told : (rows : List Row) (scope : Scope) (body : List Stmt) → InnerFits scope body → AllByRecursion (TellsOf rows) body
 inside_told rows scope body fit =
-    all_weaker (λ (one : Stmt). is_inner (out-StmtKind one.kind) ≡ true) (TellsOf rows) body (λ t inner signal is. absurd (inner_told (out-StmtKind t.kind) signal inner is)) fit.0
+    all_weaker (λ (one : Stmt). is_inner (out-StmtKind one.kind) ≡ true) (TellsOf rows) body
+    (λ t inner signal is. absurd (inner_told (out-StmtKind t.kind) signal inner is)) fit.0
 
 -- the block of a row, which receives the signal of each ENTER
 pub record RowTold (x : Exchange) (b : ℕ) (list : List Stmt) : Type 0 where
@@ -80,16 +87,31 @@ pub record RowTold (x : Exchange) (b : ℕ) (list : List Stmt) : Type 0 where
 module _ (x : Exchange) (kept : IsExchange x) (b : ℕ) where
   pub row_told : (list : List Stmt) (end : Option ℕ) → IsRow x b list end → RowTold x b list
   row_told list end (whole k there) =
-      record { block = k; there = there; told = subst (λ rows. AllByRecursion (TellsOf rows) k.body) (sym (kept.blocks.each b k there).enters) (text_told 0 k.body) }
+      record {
+        block = k;
+        there = there;
+        told = subst (λ rows. AllByRecursion (TellsOf rows) k.body)
+            (sym (kept.blocks.each b k there).enters) (text_told 0 k.body);
+      }
   row_told list end (later s rest e row) = let r = row_told (s ∷ rest) e row in record { block = r.block; there = r.there; told = r.told.1 }
   row_told list end (branch s rest e body row is) =
       let r = row_fits x kept b (s ∷ rest) e row in
       let scope = scope_of x b r.block in
-      record { block = r.block; there = r.there; told = inside_told r.block.enters scope body (branch_inner scope (out-StmtKind s.kind) body (stmt_fits-out scope s.kind r.fits.0).lists is) }
+      record {
+        block = r.block;
+        there = r.there;
+        told = inside_told r.block.enters scope body
+            (branch_inner scope (out-StmtKind s.kind) body (stmt_fits-out scope s.kind r.fits.0).lists is);
+      }
   row_told list end (turn s rest e temp from upto body row is) =
       let r = row_fits x kept b (s ∷ rest) e row in
       let scope = scope_of x b r.block in
-      record { block = r.block; there = r.there; told = inside_told r.block.enters scope body (subst (ListsFit scope) is (stmt_fits-out scope s.kind r.fits.0).lists) }
+      record {
+        block = r.block;
+        there = r.there;
+        told = inside_told r.block.enters scope body
+            (subst (ListsFit scope) is (stmt_fits-out scope s.kind r.fits.0).lists);
+      }
 
 -- as many entry values
 
@@ -99,7 +121,8 @@ most_of n ns = omega arith
 most_later : (v n : ℕ) (ns : List ℕ) → v ≤ most ns → v ≤ most (n ∷ ns)
 most_later v n ns h = omega arith
 
-most_has : (x : Exchange) (signal : ℕ) (rows : List Row) → list_any (λ (r : Row). nat_eq r.signal signal) rows ≡ true → value_count x signal ≤ most (map (λ (r : Row). value_count x r.signal) rows)
+most_has : (x : Exchange) (signal : ℕ) (rows : List Row) → list_any (λ (r : Row). nat_eq r.signal signal) rows ≡ true
+    → value_count x signal ≤ most (map (λ (r : Row). value_count x r.signal) rows)
 most_has x signal [] h = cc
 most_has x signal (r ∷ rows) h = by (nat_eq r.signal signal) refl h (most_has x signal rows)
   where
@@ -111,11 +134,15 @@ most_has x signal (r ∷ rows) h = by (nat_eq r.signal signal) refl h (most_has 
         (most_of (value_count x r.signal) (map (λ (r : Row). value_count x r.signal) rows))
     by false is any more = most_later (value_count x signal) (value_count x r.signal) (map (λ (r : Row). value_count x r.signal) rows) (more any)
 
-pub received_fits : (x : Exchange) (b signal : ℕ) (k : Block) → slice_get x.blocks b ≡ Some k → is_receiver signal k ≡ true → value_count x signal ≤ given_count x b
+pub received_fits : (x : Exchange) (b signal : ℕ) (k : Block) → slice_get x.blocks b ≡ Some k
+    → is_receiver signal k ≡ true → value_count x signal ≤ given_count x b
 received_fits x b signal k there receives =
-    subst (λ o. value_count x signal ≤ option_map_or (λ (k : Block). most (map (λ (r : Row). value_count x r.signal) k.enters)) o 0) (sym there) (most_has x signal k.enters receives)
+    subst (λ o. value_count x signal ≤ option_map_or
+    (λ (k : Block). most (map (λ (r : Row). value_count x r.signal) k.enters)) o 0) (sym there)
+    (most_has x signal k.enters receives)
 
-pub enter_fits : (x : Exchange) → IsExchange x → (b signal : ℕ) (s : Stmt) (list : List Stmt) (end : Option ℕ) → IsRow x b (s ∷ list) end → entered (out-StmtKind s.kind) ≡ Some signal → value_count x signal ≤ given_count x b
+pub enter_fits : (x : Exchange) → IsExchange x → (b signal : ℕ) (s : Stmt) (list : List Stmt) (end : Option ℕ)
+    → IsRow x b (s ∷ list) end → entered (out-StmtKind s.kind) ≡ Some signal → value_count x signal ≤ given_count x b
 enter_fits x kept b signal s list end row is =
     let r = row_told x kept b (s ∷ list) end row in
     received_fits x b signal r.block r.there (r.told.0 signal is)

@@ -1,6 +1,8 @@
--- Facts cover a job where each number that the job has before its next statement has a fact whose value stands for it.
+-- Facts cover a job where each number that the job has before its next statement has a fact whose
+-- value stands for it.
 --
--- How many callers wait, and what the last of them awaits, is known exactly: other facts may stand beside it.
+-- How many callers wait, and what the last of them awaits, is known exactly: other facts may stand
+-- beside it.
 use Rattle.std.specs.Prelude.{◌≡◌, ℕ, ◌+◌, ◌<◌, ◌≤◌, List, [], ◌∷◌, length, slice_index, Some}
 use Rattle.exchange_model.specs.declared.exchange.Exchange.{Exchange}
 use Rattle.source_meaning.specs.Config.{Item, Caller, Config}
@@ -30,11 +32,15 @@ awaits_of [] = 0
 awaits_of (k ∷ ks) = k.awaits + 1
 
 -- before a point a fact stands for each temporary of the block
-abbrev pub CoversTemps : (x : Exchange) → (P : Facts) → (e : ℕ) → (args : List ℕ) → (b p : ℕ) → (temps : List ℕ) → Type 0
-CoversTemps x P e args b p temps = (t : ℕ) → t < temp_count x b → SlotHolds P e args p (Temp t) (slice_index temps t)
+abbrev pub CoversTemps : (x : Exchange) → (P : Facts) → (e : ℕ) → (args : List ℕ) → (b p : ℕ)
+    → (temps : List ℕ) → Type 0
+CoversTemps x P e args b p temps =
+    (t : ℕ) → t < temp_count x b → SlotHolds P e args p (Temp t) (slice_index temps t)
 
--- what is known of an activation in a block before a point; past those of the block its entry values are 0
-pub record Activation (x : Exchange) (P : Facts) (e : ℕ) (args : List ℕ) (b p : ℕ) (temps given : List ℕ) (callers : List Caller) : Type 0 where
+-- what is known of an activation in a block before a point; past those of the block its entry
+-- values are 0
+pub record Activation (x : Exchange) (P : Facts) (e : ℕ) (args : List ℕ) (b p : ℕ)
+    (temps given : List ℕ) (callers : List Caller) : Type 0 where
   pub temp : CoversTemps x P e args b p temps
   pub gave : (k : ℕ) → k < given_count x b → SlotHolds P e args p (Given k) (slice_index given k)
   pub past : (k : ℕ) → given_count x b ≤ k → slice_index given k ≡ 0
@@ -42,18 +48,22 @@ pub record Activation (x : Exchange) (P : Facts) (e : ℕ) (args : List ℕ) (b 
   pub awaits : Known P e p Awaits (Const (awaits_of callers))
 
 -- that is known before the first of these items
-abbrev pub KnownBefore : Exchange → Facts → ℕ → List ℕ → ℕ → List Item → List ℕ → List ℕ → List Caller → Type 0
-KnownBefore x P e args b todo temps given callers = (p : ℕ) → head_point todo ≡ Some p → Activation x P e args b p temps given callers
+abbrev pub KnownBefore : Exchange → Facts → ℕ → List ℕ → ℕ → List Item → List ℕ → List ℕ
+    → List Caller → Type 0
+KnownBefore x P e args b todo temps given callers =
+    (p : ℕ) → head_point todo ≡ Some p → Activation x P e args b p temps given callers
 
 -- so it is of each caller, before the RETRIEVE at which it goes on
 abbrev pub CallersCovered : Exchange → Facts → ℕ → List ℕ → List Caller → Type 0
 CallersCovered x P e args [] = Unit {0}
-CallersCovered x P e args (k ∷ ks) = KnownBefore x P e args k.block k.todo k.temps k.given ks × CallersCovered x P e args ks
+CallersCovered x P e args (k ∷ ks) =
+    KnownBefore x P e args k.block k.todo k.temps k.given ks × CallersCovered x P e args ks
 
 -- at a RETRIEVE the values of the answer are known
 abbrev pub AnswersCovered : Exchange → Facts → ℕ → List ℕ → List Item → List ℕ → Type 0
 AnswersCovered x P e args todo answers =
-    (m p k : ℕ) → IsRetrieveOf m todo → head_point todo ≡ Some p → k < value_count x m → SlotHolds P e args p (Answered k) (slice_index answers k)
+    (m p k : ℕ) → IsRetrieveOf m todo → head_point todo ≡ Some p → k < value_count x m
+    → SlotHolds P e args p (Answered k) (slice_index answers k)
 
 -- a job of the entry, between two steps
 pub record Covered (x : Exchange) (P : Facts) (e : ℕ) (args : List ℕ) (c : Config) : Type 0 where
@@ -63,4 +73,5 @@ pub record Covered (x : Exchange) (P : Facts) (e : ℕ) (args : List ℕ) (c : C
 
 -- what is known before the item that is counted next
 abbrev pub KnownNext : Exchange → Facts → ℕ → List ℕ → Config → Item → Type 0
-KnownNext x P e args c i = Activation x P e args c.block (deed_point (deed_of i)) c.temps c.own.given c.callers
+KnownNext x P e args c i =
+    Activation x P e args c.block (deed_point (deed_of i)) c.temps c.own.given c.callers

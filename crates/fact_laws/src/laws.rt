@@ -12,11 +12,12 @@ ghost use Rattle.source_meaning.specs.Job.{after_steps, begins};
 ghost use Rattle.source_meaning.specs.Valid.{IsJob, StoreFits};
 ghost use Rattle.fact_laws.specs.Covers.{Covered, KnownNext};
 
-/// Facts that are closed cover every job, from its start to its end. Before each of its steps every temporary, every entry
-/// value and, at a RETRIEVE, every value of the answer has a fact whose value stands for it; how many callers wait, and which
-/// answer the last of them awaits, is known exactly; and so it is of each caller that waits, where it goes on. The same is
-/// known at the statement that is counted next, which may come past ENTERs and past ONs with no turn left. The least facts,
-/// which are closed, cover every job so.
+/// Facts that are closed cover every job, from its start to its end. Before each of its steps every
+/// temporary, every entry value and, at a RETRIEVE, every value of the answer has a fact whose
+/// value stands for it; how many callers wait, and which answer the last of them awaits, is known
+/// exactly; and so it is of each caller that waits, where it goes on. The same is known at the
+/// statement that is counted next, which may come past ENTERs and past ONs with no turn left. The
+/// least facts, which are closed, cover every job so.
 pub fn jobs_are_covered()
     ensures steps { (x : Exchange) (facts : List Fact) (start : JobStart) (store : List ℕ) (n : ℕ)
         → IsExchange x → IsClosed x (Contains facts) → IsJob x start.job → StoreFits x store

@@ -1,5 +1,8 @@
 -- What a search in facts that rise finds.
-use Rattle.std.proofs.Common.{◌≡◌, ◌⊎◌, inl, inr, ◌↔◌, ℕ, ◌+◌, ◌-◌, ◌<◌, ◌≤◌, Bool, true, false, List, length, get_or, drop, map, Contains, Some, Result, IfOk, Ok, Err, refl, sym, subst, ap, ◌∙◌, arith, length-drop, length-take-le, get_or-drop, get_or-take}
+use Rattle.std.proofs.Common.{◌≡◌, ◌⊎◌, inl, inr, ◌↔◌, ℕ, ◌+◌, ◌-◌, ◌<◌, ◌≤◌, Bool, true, false}
+use Rattle.std.proofs.Common.{List, length, get_or, drop, map, Contains, Some, Result, IfOk, Ok}
+use Rattle.std.proofs.Common.{Err, refl, sym, subst, ap, ◌∙◌, arith, length-drop, length-take-le}
+use Rattle.std.proofs.Common.{get_or-drop, get_or-take}
 use Rattle.std.specs.Prelude.{IsTrue, slice_get, slice_range, nat_lt}
 use Rattle.std.specs.declared.cmp.Ordering.{Ordering}
 use Rattle.std.specs.declared.cmp.Ordering.TheVariants.{Less, Equal, Greater}
@@ -40,7 +43,8 @@ module _ (facts : List Fact) (f : Fact) (up : Rises facts) where
   falls : (i j : ℕ) (d : Fact) → i < j → j < length facts → fact_order (get_or facts j d) (get_or facts i d) ≡ Greater
   falls i j d lt inside = total-law.antisymm (get_or facts j d) (get_or facts i d) ∙ ap ordering_reverse (up.pairs i j d lt inside)
 
-  pub span_found : (place : ℕ) → place < length facts → ((d : Fact) → fact_order (get_or facts place d) f ≡ Equal) → IsSpan facts f (record { from = place; to = place + 1 })
+  pub span_found : (place : ℕ) → place < length facts → ((d : Fact) → fact_order (get_or facts place d) f ≡ Equal)
+      → IsSpan facts f (record { from = place; to = place + 1 })
   span_found place inside same = record {
     ordered = omega arith;
     within = omega arith;
@@ -52,9 +56,12 @@ module _ (facts : List Fact) (f : Fact) (up : Rises facts) where
   searchable : (k : ℕ) (d : Fact) → 0 ≤ k → k + 1 < length facts → is_lt (fact_order (get_or facts (k + 1) d) (get_or facts k d)) ≡ false
   searchable k d le lt = ap is_lt (falls k (k + 1) d (omega arith) lt)
 
-  pub span_missing : (place : ℕ) → place ≤ length facts → IsBinarySearchResult {X = Fact} (λ g. fact_order g f) facts (Err place) → IsSpan facts f (record { from = place; to = place })
+  pub span_missing : (place : ℕ) → place ≤ length facts
+      → IsBinarySearchResult {X = Fact} (λ g. fact_order g f) facts (Err place)
+      → IsSpan facts f (record { from = place; to = place })
   span_missing place inside found =
-      let parted : IsPartitionPoint {X = Fact} (λ g. fact_order g f ≡ Less) (λ g. fact_order g f ≡ Greater) facts place = found (searchable_from_sorted total-law (λ (g : Fact). g) facts f searchable) in
+      let parted : IsPartitionPoint {X = Fact} (λ g. fact_order g f ≡ Less) (λ g. fact_order g f ≡ Greater) facts
+      place = found (searchable_from_sorted total-law (λ (g : Fact). g) facts f searchable) in
       record {
         ordered = omega arith;
         within = inside;
@@ -66,13 +73,17 @@ module _ (facts : List Fact) (f : Fact) (up : Rises facts) where
   -- what is less than a fact below, or greater than one above
 
   pub last_below : (count : ℕ) (g : Fact) (r : Bool) → slice_get facts (count - 1) ≡ Some g → r ≡ is_lt (fact_order g f) → IsTrue r → AreBelow facts f count
-  last_below count g r at is t = record { there = omega (arith, slice_get_within facts (count - 1) g at); each = λ k d lt. below k d (cases_lt k (count - 1)) lt }
+  last_below count g r at is t = record {
+    there = omega (arith, slice_get_within facts (count - 1) g at);
+    each = λ k d lt. below k d (cases_lt k (count - 1)) lt;
+  }
     where
       last : (d : Fact) → fact_order (get_or facts (count - 1) d) f ≡ Less
       last d = ap (λ h. fact_order h f) (get_or_from_slice_get facts (count - 1) g d at) ∙ is_less (fact_order g f) (sym is ∙ t)
 
       below : (k : ℕ) (d : Fact) → (k < count - 1) ⊎ (count - 1 ≤ k) → k < count → fact_order (get_or facts k d) f ≡ Less
-      below k d (inl less) lt = total-law.trans (get_or facts k d) (get_or facts (count - 1) d) f (up.pairs k (count - 1) d less (slice_get_within facts (count - 1) g at)) (last d)
+      below k d (inl less) lt = total-law.trans (get_or facts k d) (get_or facts (count - 1) d) f
+          (up.pairs k (count - 1) d less (slice_get_within facts (count - 1) g at)) (last d)
       below k d (inr past) lt = (let same : k ≡ count - 1 = omega (arith, past, lt) in ap (λ n. fact_order (get_or facts n d) f) same ∙ last d)
 
   pub first_above : (place : ℕ) (g : Fact) (r : Bool) → slice_get facts place ≡ Some g → r ≡ is_gt (fact_order g f) → IsTrue r → AreAbove facts f place
@@ -86,11 +97,14 @@ module _ (facts : List Fact) (f : Fact) (up : Rises facts) where
 
       above : (k : ℕ) (d : Fact) → (place < k) ⊎ (k ≤ place) → place ≤ k → k < length facts → fact_order (get_or facts k d) f ≡ Greater
       above k d (inl past) le lt =
-          total-law.antisymm (get_or facts k d) f ∙ ap ordering_reverse (total-law.trans f (get_or facts place d) (get_or facts k d) (before d) (up.pairs place k d past lt))
+          total-law.antisymm (get_or facts k d) f
+          ∙ ap ordering_reverse (total-law.trans f (get_or facts place d) (get_or facts k d) (before d)
+          (up.pairs place k d past lt))
       above k d (inr back) le lt = (let same : k ≡ place = omega (arith, back, le) in ap (λ n. fact_order (get_or facts n d) f) same ∙ first d)
 
 pub rising_list : (facts mid seen : List Fact) → seen ≡ mid → mid ≡ facts → IsStrictlySortedBy fact_order facts → Rises seen
-rising_list facts mid seen same are up = subst Rises (sym (same ∙ are)) (record { pairs = λ i j d lt inside. Less-from_sorted fact_order facts i j d up lt inside })
+rising_list facts mid seen same are up = subst Rises (sym (same ∙ are))
+    (record { pairs = λ i j d lt inside. Less-from_sorted fact_order facts i j d up lt inside })
 
 pub none_below : (facts : List Fact) (f : Fact) (count : ℕ) → count ≡ 0 → AreBelow facts f count
 none_below facts f count none = record { there = omega (arith, none); each = λ k d lt. absurd (omega (arith, none, lt)) }
@@ -112,7 +126,8 @@ before_above facts f from to below above = elim (cases_lt to from) [
         let more : fact_order (get_or facts to f) f ≡ Greater = above.each to f (omega arith) (let t = below.there in omega (arith, t, lt)) in
         cc
 
-module _ (facts : List Fact) (f : Fact) (h : Span) (part : List Fact) (below : AreBelow facts f h.from) (above : AreAbove facts f h.to) (is : part ≡ slice_range facts h.from h.to) where
+module _ (facts : List Fact) (f : Fact) (h : Span) (part : List Fact) (below : AreBelow facts f h.from)
+    (above : AreAbove facts f h.to) (is : part ≡ slice_range facts h.from h.to) where
   pub ordered : h.from ≤ h.to
   ordered = before_above facts f h.from h.to below above
 
@@ -169,7 +184,12 @@ module _ (facts : List Fact) (f : Fact) (h : Span) (part : List Fact) (below : A
 
 pub has_exact : (facts : List Fact) (f : Fact) (s : Span) (r : Bool) → IsSpan facts f s → r ≡ nat_lt s.from s.to → IsTrue r ↔ Contains facts f
 has_exact facts f s r span is = (
-  λ t. (s.from, (let lt = ltb-true s.from s.to (sym is ∙ t) in let w = span.within in omega arith), order_same (get_or facts s.from f) f (span.here s.from f (le_itself s.from) (ltb-true s.from s.to (sym is ∙ t)))),
+  λ t. (
+    s.from,
+    (let lt = ltb-true s.from s.to (sym is ∙ t) in let w = span.within in omega arith),
+    order_same
+        (get_or facts s.from f) f (span.here s.from f (le_itself s.from) (ltb-true s.from s.to (sym is ∙ t))),
+  ),
   λ c. is ∙ lt-ltb s.from s.to (there c.0 c.1 c.2),
 )
   where
@@ -189,7 +209,8 @@ has_exact facts f s r span is = (
 
 -- ---- the facts of a slot
 
-between_slot : (a b c v w : Ordering) → (ordering_then a (ordering_then b (ordering_then c v)) ≡ Less → ⊥) → (ordering_then a (ordering_then b (ordering_then c w)) ≡ Greater → ⊥) → (a ≡ Equal) × (b ≡ Equal) × (c ≡ Equal)
+between_slot : (a b c v w : Ordering) → (ordering_then a (ordering_then b (ordering_then c v)) ≡ Less → ⊥)
+    → (ordering_then a (ordering_then b (ordering_then c w)) ≡ Greater → ⊥) → (a ≡ Equal) × (b ≡ Equal) × (c ≡ Equal)
 between_slot Less b c v w low high = absurd (low refl)
 between_slot Greater b c v w low high = absurd (high refl)
 between_slot Equal Less c v w low high = absurd (low refl)
@@ -208,7 +229,8 @@ not_greater (Arg n) e = cc
 not_greater (Const n) e = cc
 not_greater Any e = cc
 
-module _ (facts : List Fact) (e p : ℕ) (s : Slot) (least greatest : Span) (low : IsSpan facts (fact e p s (Arg 0)) least) (high : IsSpan facts (fact e p s Any) greatest) where
+module _ (facts : List Fact) (e p : ℕ) (s : Slot) (least greatest : Span)
+    (low : IsSpan facts (fact e p s (Arg 0)) least) (high : IsSpan facts (fact e p s Any) greatest) where
   same_key : (v w : Value) → fact_order (fact e p s v) (fact e p s w) ≡ values.ghosts.cmp v w
   same_key v w =
       let entry = tied_itself nat_cmp_total e in
@@ -232,7 +254,9 @@ module _ (facts : List Fact) (e p : ℕ) (s : Slot) (least greatest : Span) (low
   own_fact k d le lt =
       let g : Fact = get_or facts k d in
       let inside : k < length facts = (let w = high.within in omega arith) in
-      let same = between_slot (nat_cmp g.entry e) (nat_cmp g.point p) (slots.ghosts.cmp g.slot s) (values.ghosts.cmp g.value (Arg 0)) (values.ghosts.cmp g.value Any) (past_least k d le inside) (upto_greatest k d lt) in
+      let same = between_slot (nat_cmp g.entry e) (nat_cmp g.point p) (slots.ghosts.cmp g.slot s)
+      (values.ghosts.cmp g.value (Arg 0)) (values.ghosts.cmp g.value Any) (past_least k d le inside)
+      (upto_greatest k d lt) in
       let entry = nat_same g.entry e same.0 in
       let point = nat_same g.point p same.1 in
       let slot = slot_same g.slot s same.2 in
@@ -267,7 +291,8 @@ module _ (facts : List Fact) (e p : ℕ) (s : Slot) (least greatest : Span) (low
           let inside : k < length facts = (let w = low.within in let o = low.ordered in omega arith) in
           let less : fact_order (get_or facts k d) (fact e p s (Arg 0)) ≡ Less = low.before k d lt in
           let step : fact_order (fact e p s (Arg 0)) (fact e p s Any) ≡ Less = same_key (Arg 0) Any in
-          let less_too : fact_order (get_or facts k d) (fact e p s Any) ≡ Less = total-law.trans (get_or facts k d) (fact e p s (Arg 0)) (fact e p s Any) less step in
+          let less_too : fact_order (get_or facts k d) (fact e p s Any) ≡ Less =
+          total-law.trans (get_or facts k d) (fact e p s (Arg 0)) (fact e p s Any) less step in
           let more : fact_order (get_or facts k d) (fact e p s Any) ≡ Greater = high.behind k d (omega arith) inside in
           cc
 
@@ -307,15 +332,22 @@ module _ (facts : List Fact) (e p : ℕ) (s : Slot) (least greatest : Span) (low
           let few : i < greatest.to - least.from = omega arith in
           let in_part : i < length part = omega (arith, part_long) in
           let at : least.from + i ≡ k = omega arith in
-          let value : get_or (map value_of part) i v ≡ v = get_or-map value_of part i d v in_part ∙ ap value_of (part_at i d few ∙ ap (λ n. get_or facts n d) at ∙ c.2) in
+          let value : get_or (map value_of part) i v ≡ v = get_or-map value_of part i d v in_part
+          ∙ ap value_of (part_at i d few ∙ ap (λ n. get_or facts n d) at ∙ c.2) in
           subst (λ l. Contains l v) (sym is) (i, omega (arith, length-map part value_of), value)
 
-pub values_ok : {E : Type 0} (facts seen : List Fact) (e p : ℕ) (s : Slot) (least greatest : Span) (some : List Fact) (r : Result (List Value) E) → seen ≡ facts → IsSpan seen (fact e p s (Arg 0)) least → IsSpan seen (fact e p s Any) greatest
+pub values_ok : {E : Type 0} (facts seen : List Fact) (e p : ℕ) (s : Slot) (least greatest : Span) (some : List Fact)
+    (r : Result (List Value) E) → seen ≡ facts → IsSpan seen (fact e p s (Arg 0)) least
+    → IsSpan seen (fact e p s Any) greatest
     → some ≡ slice_range seen least.from greatest.to → IfOk r (λ list. list ≡ map value_of some) → IfOk r (AreValues (λ v. Contains facts (fact e p s v)))
-values_ok facts seen e p s least greatest some (Ok list) same low high are h = subst (λ l. AreValues (λ v. Contains l (fact e p s v)) list) same (slot_values seen e p s least greatest low high list (h ∙ ap (map value_of) are))
+values_ok facts seen e p s least greatest some (Ok list) same low high are h = subst
+    (λ l. AreValues (λ v. Contains l (fact e p s v)) list) same
+    (slot_values seen e p s least greatest low high list (h ∙ ap (map value_of) are))
 values_ok facts seen e p s least greatest some (Err x) same low high are h = h
 
-pub reached_ok : (facts seen : List Fact) (e p : ℕ) (least greatest : Span) (r : Bool) → seen ≡ facts → IsSpan seen (fact e p Depth (Arg 0)) least → IsSpan seen (fact e p Depth Any) greatest → r ≡ nat_lt least.from greatest.to
+pub reached_ok : (facts seen : List Fact) (e p : ℕ) (least greatest : Span) (r : Bool) → seen ≡ facts
+    → IsSpan seen (fact e p Depth (Arg 0)) least → IsSpan seen (fact e p Depth Any) greatest
+    → r ≡ nat_lt least.from greatest.to
     → IsTrue r ↔ Reached (Contains facts) e p
 reached_ok facts seen e p least greatest r same low high is = subst (λ l. IsTrue r ↔ Reached (Contains l) e p) same (
   λ t.

@@ -7,16 +7,16 @@ use std::alloc::Global;
 /// Facts whose mark would have this number or a higher one are not in an index.
 const MOST_MARKS: usize = 1_048_576;
 
-/// Which of 64 points of an entry have facts, a bit for each, and how many pairs of an entry and a point with facts come before
-/// these.
+/// Which of 64 points of an entry have facts, a bit for each, and how many pairs of an entry and a
+/// point with facts come before these.
 #[derive(Clone, Copy)]
 struct Mark {
     points: u64,
     before: usize,
 }
 
-/// For each entry and point where their facts stand, or would stand. It is a hint: what it tells is compared with the facts, and
-/// a wrong one costs time alone.
+/// For each entry and point where their facts stand, or would stand. It is a hint: what it tells is
+/// compared with the facts, and a wrong one costs time alone.
 pub(crate) struct Index {
     marks: Seq<Mark>,
     open: Mark,

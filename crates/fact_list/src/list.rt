@@ -16,8 +16,8 @@ use plex_num::{Memory, Seq};
 use std::alloc::Global;
 use std::marker::Model;
 
-/// Facts in their order, each once, which contracts see as the list of them. Beside them stands where those of each entry at each
-/// point are.
+/// Facts in their order, each once, which contracts see as the list of them. Beside them stands
+/// where those of each entry at each point are.
 pub struct FactList {
     facts: Seq<Fact>,
     index: Index,
@@ -43,7 +43,8 @@ impl Model for FactList {
 }
 
 impl FactList {
-    /// The list of these facts, which must stand in their order, each once. Memory is the only reason for an error.
+    /// The list of these facts, which must stand in their order, each once. Memory is the only
+    /// reason for an error.
     pub fn new(alloc: Global, facts: Seq<Fact>) -> Result<FactList, Memory>
         requires { IsStrictlySortedBy fact_order facts }
         ensures { IfOk result (λ list. list ≡ facts) }

@@ -1,5 +1,6 @@
 // Facts that rise, searched.
-ghost use Rattle.std.specs.Prelude.{◌≡◌, ◌+◌, ◌<◌, ◌≤◌, Some, length, map, slice_get, IfOk, IsTrue, slice_range};
+ghost use Rattle.std.specs.Prelude.{◌≡◌, ◌+◌, ◌<◌, ◌≤◌, Some, length, map, slice_get, IfOk, IsTrue};
+ghost use Rattle.std.specs.Prelude.{slice_range};
 ghost use Rattle.std.specs.Ordering.{is_gt, is_lt};
 ghost use Rattle.flow_points.specs.Orders.{fact_order};
 ghost use Rattle.fact_list.specs.Spans.{AreAbove, AreBelow, IsSpan, Rises, shifted, value_of};
@@ -8,15 +9,16 @@ use flow_points::{Fact, Value};
 use plex_num::{Memory, Seq};
 use std::alloc::Global;
 
-/// Where a fact stands in a list, or would stand: from the first place to before the second one. The two are the same where it
-/// is not in the list.
+/// Where a fact stands in a list, or would stand: from the first place to before the second one.
+/// The two are the same where it is not in the list.
 #[derive(Clone, Copy)]
 pub struct Span {
     pub from: usize,
     pub to: usize,
 }
 
-/// Where a fact stands, in facts that rise. It is looked for first between the two places of the hint.
+/// Where a fact stands, in facts that rise. It is looked for first between the two places of the
+/// hint.
 pub(crate) fn span_of(facts: &[Fact], hint: Span, fact: Fact) -> Span
     requires { Rises facts.now }
     ensures { IsSpan facts.now fact result }

@@ -23,7 +23,8 @@ placed x at row is (Answered k) lt = subst (λ n. k < n) (sym is.answered) lt
 placed x at row is Depth u = tt
 placed x at row is Awaits u = tt
 
-pub table_fits : (x : Exchange) (t : FlowTable) (e p : ℕ) (s : Slot) (v : Value) → IsFlowTable x t → HasSlot x p s → HasNumber s v → Fits (slots_of t) (fact e p s v)
+pub table_fits : (x : Exchange) (t : FlowTable) (e p : ℕ) (s : Slot) (v : Value) → IsFlowTable x t → HasSlot x p s
+    → HasNumber s v → Fits (slots_of t) (fact e p s v)
 table_fits x t e p s v table has number =
     let row = table.rows.each p has.place has.stands in
     record {

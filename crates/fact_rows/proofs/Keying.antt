@@ -1,12 +1,15 @@
 -- The slots before points in order, and the facts of all of them.
-use Rattle.std.proofs.Common.{◌≡◌, ⊎_elim, ℕ, ◌+◌, ◌<◌, ◌≤◌, List, [], ◌∷◌, ◌++◌, length, get_or, drop, Contains, Option, Some, None, slice_get, Result, IfOk, Ok, Err, refl, sym, subst, ap, ◌∙◌, arith, append-nil, append_assoc}
+use Rattle.std.proofs.Common.{◌≡◌, ⊎_elim, ℕ, ◌+◌, ◌<◌, ◌≤◌, List, [], ◌∷◌, ◌++◌, length, get_or}
+use Rattle.std.proofs.Common.{drop, Contains, Option, Some, None, slice_get, Result, IfOk, Ok, Err}
+use Rattle.std.proofs.Common.{refl, sym, subst, ap, ◌∙◌, arith, append-nil, append_assoc}
 use Rattle.std.specs.declared.cmp.Ordering.TheVariants.{Less}
 use Rattle.std.specs.List.{range_with_len}
 use Rattle.std.specs.List.Sorted.{IsStrictlySortedBy}
 use Rattle.std.specs.Ordering.{nat_cmp, ordering_then}
 use Rattle.std.proofs.lemmas.Cmp.{nat_cmp_total, tied_itself}
 use Rattle.std.proofs.lemmas.List.{get_or_default}
-use Rattle.std.proofs.lemmas.List.Elements.{Contains-append_cases, Contains-append_left, Contains-append_right}
+use Rattle.std.proofs.lemmas.List.Elements.{Contains-append_cases, Contains-append_left}
+use Rattle.std.proofs.lemmas.List.Elements.{Contains-append_right}
 use Rattle.std.proofs.lemmas.List.FromFn.{map-range_with_len_more}
 use Rattle.std.proofs.lemmas.Map.Keys.{sorted_tail}
 use Rattle.std.proofs.Math.ListN.{drop_of_length-le}
@@ -25,11 +28,13 @@ use Rattle.fact_rows.specs.Numbers.{AreNumbers}
 use Rattle.fact_rows.specs.Places.{Marks, HasPlace, numbers_at, spot_of}
 use Rattle.fact_rows.specs.Known.{BitRows, Knows, KnowsAt, AreFacts, ArePointsOf}
 use Rattle.fact_rows.specs.Values.{value_in}
-use Rattle.fact_rows.specs.Touched.{key_order, key, IsKept, facts_at, facts_of, keys_at, keys_before, keys_if, keys_of, numbered_keys, numbered_slot}
+use Rattle.fact_rows.specs.Touched.{key_order, key, IsKept, facts_at, facts_of, keys_at}
+use Rattle.fact_rows.specs.Touched.{keys_before, keys_if, keys_of, numbered_keys, numbered_slot}
 use Rattle.fact_rows.proofs.Numbering.{in_range, range_has, range_rises}
 use Rattle.fact_rows.proofs.Laying.{numbers_by, slot_placed}
 use Rattle.fact_rows.proofs.Holding.{from_map, rising_past, to_map}
-use Rattle.fact_rows.proofs.Listing.{facts_exact, nat_less, sorted_append, sorted_cons, sorted_map, sorted_none}
+use Rattle.fact_rows.proofs.Listing.{facts_exact, nat_less, sorted_append, sorted_cons, sorted_map}
+use Rattle.fact_rows.proofs.Listing.{sorted_none}
 
 -- ---- the slots before a point rise
 
@@ -104,11 +109,14 @@ module _ (p : ℕ) where
 
   kind_rises : (m : Numbered) (n : ℕ) → IsStrictlySortedBy key_order (numbered_keys p m n)
   kind_rises m n =
-      sorted_map key_order (λ k. key p (numbered_slot m k)) n (λ a b lt upto. same_point (key p (numbered_slot m a)) (key p (numbered_slot m b)) refl (slot_less m a b lt))
+      sorted_map key_order (λ k. key p (numbered_slot m k)) n
+      (λ a b lt upto. same_point (key p (numbered_slot m a)) (key p (numbered_slot m b)) refl (slot_less m a b lt))
       (range_with_len 0 n) (range_rises 0 n) (λ k c. let inside = (in_range 0 n k c).1 in omega arith)
 
   -- slots of a kind in front of slots of later kinds
-  both_rise : (m : Numbered) (n low : ℕ) (rest : List Key) → kind_rank m < low → ((k : Key) → Contains rest k → IsFrom p low k) → IsStrictlySortedBy key_order rest → IsStrictlySortedBy key_order (numbered_keys p m n ++ rest)
+  both_rise : (m : Numbered) (n low : ℕ) (rest : List Key) → kind_rank m < low
+      → ((k : Key) → Contains rest k → IsFrom p low k) → IsStrictlySortedBy key_order rest
+      → IsStrictlySortedBy key_order (numbered_keys p m n ++ rest)
   both_rise m n low rest lt all up =
       sorted_append key_order (numbered_keys p m n) rest (kind_rises m n) up
       (λ j k c d.
@@ -118,7 +126,9 @@ module _ (p : ℕ) where
       let from = later.from in
       same_point j k (first.0 ∙ sym later.point) (rank_less j.slot k.slot (omega (arith, own, from, lt))))
 
-  both_from : (m : Numbered) (n low : ℕ) (rest : List Key) → kind_rank m < low → ((k : Key) → Contains rest k → IsFrom p low k) → (k : Key) → Contains (numbered_keys p m n ++ rest) k → IsFrom p (kind_rank m) k
+  both_from : (m : Numbered) (n low : ℕ) (rest : List Key) → kind_rank m < low
+      → ((k : Key) → Contains rest k → IsFrom p low k) → (k : Key) → Contains (numbered_keys p m n ++ rest) k
+      → IsFrom p (kind_rank m) k
   both_from m n low rest lt all k c =
       ⊎_elim
       (λ here. let own = kind_of m n k here in let is = own.1 in record { point = own.0; from = omega (arith, is) })
@@ -132,13 +142,17 @@ module _ (p : ℕ) where
   last_from k c =
       ⊎_elim
       (λ (is : key p slot.Depth ≡ k). subst (IsFrom p 3) is (record { point = refl; from = omega arith }))
-      (λ rest. ⊎_elim (λ (is : key p slot.Awaits ≡ k). subst (IsFrom p 3) is (record { point = refl; from = omega arith })) (λ none. absurd (none_in k none)) (first_or_later (key p slot.Awaits) k [] rest))
+      (λ rest. ⊎_elim (λ (is : key p slot.Awaits ≡ k). subst (IsFrom p 3) is
+      (record { point = refl; from = omega arith })) (λ none. absurd (none_in k none))
+      (first_or_later (key p slot.Awaits) k [] rest))
       (first_or_later (key p slot.Depth) k (key p slot.Awaits ∷ []) c)
 
   last_rise : IsStrictlySortedBy key_order last_keys
   last_rise =
       sorted_cons key_order (key p slot.Depth) (key p slot.Awaits ∷ [])
-      (λ k c. ⊎_elim (λ (is : key p slot.Awaits ≡ k). subst (λ j. key_order (key p slot.Depth) j ≡ Less) is (same_point (key p slot.Depth) (key p slot.Awaits) refl refl)) (λ none. absurd (none_in k none)) (first_or_later (key p slot.Awaits) k [] c))
+      (λ k c. ⊎_elim (λ (is : key p slot.Awaits ≡ k). subst (λ j. key_order (key p slot.Depth) j ≡ Less) is
+      (same_point (key p slot.Depth) (key p slot.Awaits) refl refl)) (λ none. absurd (none_in k none))
+      (first_or_later (key p slot.Awaits) k [] c))
       (sorted_cons key_order (key p slot.Awaits) [] (λ k none. absurd (none_in k none)) (sorted_none key_order))
 
   module _ (c : Counts) where
@@ -225,14 +239,16 @@ key_before m p s n c = by (spot_of m.slots p s) refl
   where
     by : (o : Option Spot) → spot_of m.slots p s ≡ o → Contains (keys_before m.slots p) (key p s)
     by None none = absurd (none_in n (subst (λ l. Contains l n) (numbers_by m p s None none) c))
-    by (Some spot) is = (let at = slot_placed m.slots p s spot is in subst (λ o. Contains (keys_if p o) (key p s)) (sym at.there) (at_has p at.counts s at.slot))
+    by (Some spot) is = (let at = slot_placed m.slots p s spot is in subst (λ o. Contains (keys_if p o) (key p s))
+        (sym at.there) (at_has p at.counts s at.slot))
 
 module _ (e : ℕ) (m : Marks) (touched : List ℕ) (kept : IsKept m touched) where
   abbrev own_rows : BitRows
   own_rows = record { entry = e; marks = m }
 
   known_before : (f : Fact) → Knows own_rows f → Contains (keys_before m.slots f.point) (key f.point f.slot)
-  known_before f known = (let there = from_map (value_in f.slot) (numbers_at m f.point f.slot) f.value known.value in key_before m f.point f.slot there.0 there.1)
+  known_before f known = (let there = from_map (value_in f.slot) (numbers_at m f.point f.slot) f.value known.value in
+      key_before m f.point f.slot there.0 there.1)
 
   pub points_found : (ps : List ℕ) → AreNumbers (Contains touched) ps → ArePointsOf (Knows own_rows) ps
   points_found ps are = record { rising = are.rising; listed = there }
@@ -240,12 +256,14 @@ module _ (e : ℕ) (m : Marks) (touched : List ℕ) (kept : IsKept m touched) wh
       there : (f : Fact) → Knows own_rows f → Contains ps f.point
       there f known =
           ⊎_elim
-          (λ none. let number = from_map (value_in f.slot) (numbers_at m f.point f.slot) f.value known.value in absurd (none_in number.0 (subst (λ l. Contains l number.0) none number.1)))
+          (λ none. let number = from_map (value_in f.slot) (numbers_at m f.point f.slot) f.value known.value in absurd
+          (none_in number.0 (subst (λ l. Contains l number.0) none number.1)))
           (are.listed f.point)
           (kept.listed f.point f.slot)
 
   points_exact : (ps : List ℕ) → ArePointsOf (Knows own_rows) ps → AreFacts (Knows own_rows) (facts_of e m (keys_of m.slots ps))
-  points_exact ps are = facts_exact e m touched kept (Knows own_rows) (keys_of m.slots ps) (keys_rise m.slots ps are.rising) (λ f known. known) (λ f c known. known) there
+  points_exact ps are = facts_exact e m touched kept (Knows own_rows) (keys_of m.slots ps)
+      (keys_rise m.slots ps are.rising) (λ f known. known) (λ f c known. known) there
     where
       there : (f : Fact) → Knows own_rows f → Contains (keys_of m.slots ps) (key f.point f.slot)
       there f known = keys_has m.slots ps f.point (key f.point f.slot) (are.listed f known) (known_before f known)
@@ -256,19 +274,29 @@ module _ (e : ℕ) (m : Marks) (touched : List ℕ) (kept : IsKept m touched) wh
       (λ f c known. (before_at p (slice_get m.slots p) (key f.point f.slot) c, known))
       (λ f k. subst (λ q. Contains (keys_before m.slots q) (key f.point f.slot)) k.0 (known_before f k.1))
 
-pub point_ok : (k : BitRows) (e p : ℕ) (m : Marks) (touched : List ℕ) (none facts : List Fact) → record { entry = e; marks = m } ≡ k → IsKept m touched → none ≡ [] → facts ≡ none ++ facts_of e m (keys_before m.slots p) → AreFacts (KnowsAt k p) facts
+pub point_ok : (k : BitRows) (e p : ℕ) (m : Marks) (touched : List ℕ) (none facts : List Fact)
+    → record { entry = e; marks = m } ≡ k → IsKept m touched → none ≡ []
+    → facts ≡ none ++ facts_of e m (keys_before m.slots p) → AreFacts (KnowsAt k p) facts
 point_ok k e p m touched none facts same kept empty is =
-    subst (λ (rows : BitRows). AreFacts (KnowsAt rows p) facts) same (subst (AreFacts (KnowsAt (record { entry = e; marks = m }) p)) (sym (is ∙ ap (λ l. l ++ facts_of e m (keys_before m.slots p)) empty)) (point_exact e m touched kept p))
+    subst (λ (rows : BitRows). AreFacts (KnowsAt rows p) facts) same
+    (subst (AreFacts (KnowsAt (record { entry = e; marks = m }) p))
+    (sym (is ∙ ap (λ l. l ++ facts_of e m (keys_before m.slots p)) empty)) (point_exact e m touched kept p))
 
-pub points_ok : (k : BitRows) (e : ℕ) (m : Marks) (touched seen once : List ℕ) → record { entry = e; marks = m } ≡ k → IsKept m touched → seen ≡ touched → AreNumbers (Contains seen) once → ArePointsOf (Knows k) once
+pub points_ok : (k : BitRows) (e : ℕ) (m : Marks) (touched seen once : List ℕ) → record { entry = e; marks = m } ≡ k
+    → IsKept m touched → seen ≡ touched → AreNumbers (Contains seen) once → ArePointsOf (Knows k) once
 points_ok k e m touched seen once same kept are_touched are =
-    subst (λ (rows : BitRows). ArePointsOf (Knows rows) once) same (points_found e m touched kept once (subst (λ l. AreNumbers (Contains l) once) are_touched are))
+    subst (λ (rows : BitRows). ArePointsOf (Knows rows) once) same
+    (points_found e m touched kept once (subst (λ l. AreNumbers (Contains l) once) are_touched are))
 
-pub facts_ok : {E : Type 0} (k : BitRows) (e : ℕ) (m : Marks) (touched once points : List ℕ) (r : Result (List Fact) E) → record { entry = e; marks = m } ≡ k → IsKept m touched → ArePointsOf (Knows k) once → points ≡ once
+pub facts_ok : {E : Type 0} (k : BitRows) (e : ℕ) (m : Marks) (touched once points : List ℕ) (r : Result (List Fact) E)
+    → record { entry = e; marks = m } ≡ k → IsKept m touched → ArePointsOf (Knows k) once → points ≡ once
     → IfOk r (λ facts. facts ≡ facts_of e m (keys_of m.slots points)) → IfOk r (AreFacts (Knows k))
 facts_ok k e m touched once points (Ok facts) same kept are are_once h =
-    let all : ArePointsOf (Knows (record { entry = e; marks = m })) points = subst (ArePointsOf (Knows (record { entry = e; marks = m }))) (sym are_once) (subst (λ (rows : BitRows). ArePointsOf (Knows rows) once) (sym same) are) in
-    subst (λ (rows : BitRows). AreFacts (Knows rows) facts) same (subst (AreFacts (Knows (record { entry = e; marks = m }))) (sym h) (points_exact e m touched kept points all))
+    let all : ArePointsOf (Knows (record { entry = e; marks = m })) points = subst
+    (ArePointsOf (Knows (record { entry = e; marks = m }))) (sym are_once)
+    (subst (λ (rows : BitRows). ArePointsOf (Knows rows) once) (sym same) are) in
+    subst (λ (rows : BitRows). AreFacts (Knows rows) facts) same
+    (subst (AreFacts (Knows (record { entry = e; marks = m }))) (sym h) (points_exact e m touched kept points all))
 facts_ok k e m touched once points (Err x) same kept are are_once h = h
 
 -- ---- the list of facts grows by a point
@@ -280,47 +308,60 @@ facts_both e m (j ∷ js) ks =
     ∙ sym (append_assoc (facts_at e j (numbers_at m j.point j.slot)) (facts_of e m js) (facts_of e m ks))
 
 -- the facts of slots, and behind them those of others
-facts_on : (e : ℕ) (m : Marks) (js ks : List Key) (old mid new : List Fact) → mid ≡ old ++ facts_of e m js → new ≡ mid ++ facts_of e m ks → new ≡ old ++ facts_of e m (js ++ ks)
+facts_on : (e : ℕ) (m : Marks) (js ks : List Key) (old mid new : List Fact) → mid ≡ old ++ facts_of e m js
+    → new ≡ mid ++ facts_of e m ks → new ≡ old ++ facts_of e m (js ++ ks)
 facts_on e m js ks old mid new first second =
     second ∙ ap (λ l. l ++ facts_of e m ks) first ∙ append_assoc old (facts_of e m js) (facts_of e m ks) ∙ ap (λ l. old ++ l) (sym (facts_both e m js ks))
 
 pub none_pushed : (e p : ℕ) (m : Marks) (old : List Fact) → None ≡ slice_get m.slots p → old ≡ old ++ facts_of e m (keys_before m.slots p)
 none_pushed e p m old none = sym (append-nil old) ∙ ap (λ o. old ++ facts_of e m (keys_if p o)) none
 
-pub point_pushed : (e p : ℕ) (m : Marks) (c : Counts) (old new : List Fact) → Some c ≡ slice_get m.slots p → new ≡ old ++ facts_of e m (keys_at p c) → new ≡ old ++ facts_of e m (keys_before m.slots p)
+pub point_pushed : (e p : ℕ) (m : Marks) (c : Counts) (old new : List Fact) → Some c ≡ slice_get m.slots p
+    → new ≡ old ++ facts_of e m (keys_at p c) → new ≡ old ++ facts_of e m (keys_before m.slots p)
 point_pushed e p m c old new some is = is ∙ ap (λ o. old ++ facts_of e m (keys_if p o)) some
 
 -- one slot more
-slot_pushed : (e : ℕ) (m : Marks) (ks : List Key) (k own : Key) (old mid new : List Fact) → own ≡ k → mid ≡ old ++ facts_of e m ks → new ≡ mid ++ facts_at e own (numbers_at m own.point own.slot) → new ≡ old ++ facts_of e m (ks ++ k ∷ [])
+slot_pushed : (e : ℕ) (m : Marks) (ks : List Key) (k own : Key) (old mid new : List Fact) → own ≡ k
+    → mid ≡ old ++ facts_of e m ks → new ≡ mid ++ facts_at e own (numbers_at m own.point own.slot)
+    → new ≡ old ++ facts_of e m (ks ++ k ∷ [])
 slot_pushed e m ks k own old mid new same before is =
-    facts_on e m ks (k ∷ []) old mid new before (is ∙ ap (λ (j : Key). mid ++ facts_at e j (numbers_at m j.point j.slot)) same ∙ ap (λ l. mid ++ l) (sym (append-nil (facts_at e k (numbers_at m k.point k.slot)))))
+    facts_on e m ks (k ∷ []) old mid new before
+    (is ∙ ap (λ (j : Key). mid ++ facts_at e j (numbers_at m j.point j.slot)) same
+    ∙ ap (λ l. mid ++ l) (sym (append-nil (facts_at e k (numbers_at m k.point k.slot)))))
 
-pub slots_pushed : (e p : ℕ) (m : Marks) (c : Counts) (dk ak : Key) (a b d f g h : List Fact) → b ≡ a ++ facts_of e m (numbered_keys p Temp c.temps) → d ≡ b ++ facts_of e m (numbered_keys p Given c.given) → f ≡ d ++ facts_of e m (numbered_keys p Answered c.answered)
-    → dk ≡ key p slot.Depth → g ≡ f ++ facts_at e dk (numbers_at m dk.point dk.slot) → ak ≡ key p slot.Awaits → h ≡ g ++ facts_at e ak (numbers_at m ak.point ak.slot) → h ≡ a ++ facts_of e m (keys_at p c)
+pub slots_pushed : (e p : ℕ) (m : Marks) (c : Counts) (dk ak : Key) (a b d f g h : List Fact)
+    → b ≡ a ++ facts_of e m (numbered_keys p Temp c.temps) → d ≡ b ++ facts_of e m (numbered_keys p Given c.given)
+    → f ≡ d ++ facts_of e m (numbered_keys p Answered c.answered)
+    → dk ≡ key p slot.Depth → g ≡ f ++ facts_at e dk (numbers_at m dk.point dk.slot) → ak ≡ key p slot.Awaits
+    → h ≡ g ++ facts_at e ak (numbers_at m ak.point ak.slot) → h ≡ a ++ facts_of e m (keys_at p c)
 slots_pushed e p m c dk ak a b d f g h temps given answered depth_key depth awaits_key awaits =
     let first : g ≡ f ++ facts_of e m (key p slot.Depth ∷ []) = slot_pushed e m [] (key p slot.Depth) dk f f g depth_key (sym (append-nil f)) depth in
     let last : h ≡ f ++ facts_of e m (last_keys p) = slot_pushed e m (key p slot.Depth ∷ []) (key p slot.Awaits) ak f g h awaits_key first awaits in
     facts_on e m (numbered_keys p Temp c.temps) (given_on p c) a b h temps
-    (facts_on e m (numbered_keys p Given c.given) (answered_on p c) b d h given (facts_on e m (numbered_keys p Answered c.answered) (last_keys p) d f h answered last))
+    (facts_on e m (numbered_keys p Given c.given) (answered_on p c) b d h given
+    (facts_on e m (numbered_keys p Answered c.answered) (last_keys p) d f h answered last))
 
 -- a loop over numbers
 
 pub numbered_begin : (e p : ℕ) (m : Marks) (kind : Numbered) (old : List Fact) → old ≡ old ++ facts_of e m (numbered_keys p kind 0)
 numbered_begin e p m kind old = sym (append-nil old)
 
-pub numbered_more : (e p : ℕ) (m : Marks) (kind : Numbered) (n : ℕ) (s : Slot) (own : Key) (old mid new : List Fact) → s ≡ numbered_slot kind n → own ≡ key p s → mid ≡ old ++ facts_of e m (numbered_keys p kind n)
+pub numbered_more : (e p : ℕ) (m : Marks) (kind : Numbered) (n : ℕ) (s : Slot) (own : Key) (old mid new : List Fact)
+    → s ≡ numbered_slot kind n → own ≡ key p s → mid ≡ old ++ facts_of e m (numbered_keys p kind n)
     → new ≡ mid ++ facts_at e own (numbers_at m own.point own.slot) → new ≡ old ++ facts_of e m (numbered_keys p kind (n + 1))
 numbered_more e p m kind n s own old mid new slot_is own_is before is =
     let from : 0 + n ≡ n = omega arith in
     slot_pushed e m (numbered_keys p kind n) (key p (numbered_slot kind n)) own old mid new (own_is ∙ ap (key p) slot_is) before is
     ∙ ap (λ l. old ++ facts_of e m l) (sym (map-range_with_len_more (λ k. key p (numbered_slot kind k)) 0 n n from))
 
-pub numbered_end : (e p : ℕ) (m : Marks) (kind : Numbered) (n count : ℕ) (old now : List Fact) → n ≤ count → count ≤ n → now ≡ old ++ facts_of e m (numbered_keys p kind n) → now ≡ old ++ facts_of e m (numbered_keys p kind count)
+pub numbered_end : (e p : ℕ) (m : Marks) (kind : Numbered) (n count : ℕ) (old now : List Fact) → n ≤ count → count ≤ n
+    → now ≡ old ++ facts_of e m (numbered_keys p kind n) → now ≡ old ++ facts_of e m (numbered_keys p kind count)
 numbered_end e p m kind n count old now low high is = (let all : n ≡ count = omega arith in is ∙ ap (λ k. old ++ facts_of e m (numbered_keys p kind k)) all)
 
 -- a loop over points
 
-pub points_more : (e : ℕ) (m : Marks) (ps : List ℕ) (i d : ℕ) (now new all : List Fact) → i < length ps → new ≡ now ++ facts_of e m (keys_before m.slots (get_or ps i d))
+pub points_more : (e : ℕ) (m : Marks) (ps : List ℕ) (i d : ℕ) (now new all : List Fact) → i < length ps
+    → new ≡ now ++ facts_of e m (keys_before m.slots (get_or ps i d))
     → now ++ facts_of e m (keys_of m.slots (drop i ps)) ≡ all → new ++ facts_of e m (keys_of m.slots (drop (i + 1) ps)) ≡ all
 points_more e m ps i d now new all lt to h =
     let p : ℕ = get_or ps i d in
@@ -331,5 +372,6 @@ points_more e m ps i d now new all lt to h =
     ∙ ap (λ l. now ++ l) (sym (facts_both e m (keys_before m.slots p) rest) ∙ sym (ap (λ l. facts_of e m (keys_of m.slots l)) (opens ps i p lt is)))
     ∙ h
 
-pub points_end : (e : ℕ) (m : Marks) (ps : List ℕ) (i : ℕ) (now all : List Fact) → length ps ≤ i → now ++ facts_of e m (keys_of m.slots (drop i ps)) ≡ all → now ≡ all
+pub points_end : (e : ℕ) (m : Marks) (ps : List ℕ) (i : ℕ) (now all : List Fact) → length ps ≤ i
+    → now ++ facts_of e m (keys_of m.slots (drop i ps)) ≡ all → now ≡ all
 points_end e m ps i now all past h = sym (append-nil now) ∙ sym (ap (λ l. now ++ facts_of e m (keys_of m.slots l)) (drop_of_length-le ps past)) ∙ h

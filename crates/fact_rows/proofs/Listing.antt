@@ -1,5 +1,6 @@
 -- Facts in their order: slot by slot, and of each slot by their numbers.
-use Rattle.std.proofs.Common.{◌≡◌, inl, inr, ⊎_elim, ℕ, ◌+◌, ◌-◌, ◌<◌, ◌≤◌, List, [], ◌∷◌, ◌++◌, get_or, map, Contains, refl, sym, subst, ap, ◌∙◌, arith}
+use Rattle.std.proofs.Common.{◌≡◌, inl, inr, ⊎_elim, ℕ, ◌+◌, ◌-◌, ◌<◌, ◌≤◌, List, [], ◌∷◌, ◌++◌}
+use Rattle.std.proofs.Common.{get_or, map, Contains, refl, sym, subst, ap, ◌∙◌, arith}
 use Rattle.std.specs.declared.cmp.Ordering.{Ordering}
 use Rattle.std.specs.declared.cmp.Ordering.TheVariants.{Less, Equal, Greater}
 use Rattle.std.specs.List.{dedup}
@@ -10,9 +11,12 @@ use Rattle.std.specs.Prelude.{nat_lt, nat_eq, if◌then◌else◌}
 use Rattle.std.proofs.lemmas.Bool.{cases_lt, cond-true, lt-ltb}
 use Rattle.std.specs.Cmp.{unsigned_ties}
 use Rattle.std.proofs.lemmas.Cmp.{nat_cmp_total, tied_itself}
-use Rattle.std.proofs.lemmas.List.Elements.{All-contains, All-from_recursion, recursion_from_All, Contains-append_cases, Contains-append_left, Contains-append_right, Contains-get_or}
+use Rattle.std.proofs.lemmas.List.Elements.{All-contains, All-from_recursion, recursion_from_All}
+use Rattle.std.proofs.lemmas.List.Elements.{Contains-append_cases, Contains-append_left}
+use Rattle.std.proofs.lemmas.List.Elements.{Contains-append_right, Contains-get_or}
 use Rattle.std.proofs.lemmas.List.Filters.{dedup_is}
-use Rattle.std.proofs.lemmas.List.Kept.{Contains-dedup_nat, Contains-from_dedup, IsStrictlySortedBy-dedup}
+use Rattle.std.proofs.lemmas.List.Kept.{Contains-dedup_nat, Contains-from_dedup}
+use Rattle.std.proofs.lemmas.List.Kept.{IsStrictlySortedBy-dedup}
 use Rattle.std.proofs.lemmas.List.Sorted.{Contains-permutation, IsPermutation-sym}
 use Rattle.std.proofs.lemmas.Map.Keys.{sorted_head, sorted_tail}
 use Rattle.plex_limits.specs.declared.limits.TheConstants.{MOST_VALUES}
@@ -51,18 +55,21 @@ module _ {X : Type 0} (cmp : X → X → Ordering) where
   pub before_rest : (x : X) (xs : List X) → IsStrictlySortedBy cmp (x ∷ xs) → (y : X) → Contains xs y → cmp x y ≡ Less
   before_rest x xs up y c = All-contains (λ z. cmp x z ≡ Less) xs y (All-from_recursion (λ z. cmp x z ≡ Less) xs (sorted_head cmp x xs up)) c
 
-  pub sorted_append : (xs ys : List X) → IsStrictlySortedBy cmp xs → IsStrictlySortedBy cmp ys → ((x y : X) → Contains xs x → Contains ys y → cmp x y ≡ Less) → IsStrictlySortedBy cmp (xs ++ ys)
+  pub sorted_append : (xs ys : List X) → IsStrictlySortedBy cmp xs → IsStrictlySortedBy cmp ys
+      → ((x y : X) → Contains xs x → Contains ys y → cmp x y ≡ Less) → IsStrictlySortedBy cmp (xs ++ ys)
   sorted_append [] ys up_x up_y h = up_y
   sorted_append (x ∷ xs) ys up_x up_y h =
       sorted_cons x (xs ++ ys)
       (λ y c. ⊎_elim (λ left. before_rest x xs up_x y left) (λ right. h x y (0, omega arith, refl) right) (Contains-append_cases xs ys y c))
       (sorted_append xs ys (sorted_tail cmp x xs up_x) up_y (λ u v c d. h u v (later_is x u xs c) d))
 
-  pub sorted_map : (f : ℕ → X) (bound : ℕ) → ((a b : ℕ) → a < b → b < bound → cmp (f a) (f b) ≡ Less) → (ns : List ℕ) → IsStrictlySortedBy nat_cmp ns → ((n : ℕ) → Contains ns n → n < bound) → IsStrictlySortedBy cmp (map f ns)
+  pub sorted_map : (f : ℕ → X) (bound : ℕ) → ((a b : ℕ) → a < b → b < bound → cmp (f a) (f b) ≡ Less) → (ns : List ℕ)
+      → IsStrictlySortedBy nat_cmp ns → ((n : ℕ) → Contains ns n → n < bound) → IsStrictlySortedBy cmp (map f ns)
   sorted_map f bound less [] up below = sorted_none
   sorted_map f bound less (n ∷ ns) up below =
       sorted_cons (f n) (map f ns)
-      (λ y c. let there = from_map f ns y c in subst (λ z. cmp (f n) z ≡ Less) there.2 (less n there.0 (rising_past n ns up there.0 there.1) (below there.0 (later_is n there.0 ns there.1))))
+      (λ y c. let there = from_map f ns y c in subst (λ z. cmp (f n) z ≡ Less) there.2
+      (less n there.0 (rising_past n ns up there.0 there.1) (below there.0 (later_is n there.0 ns there.1))))
       (sorted_map f bound less ns (sorted_tail nat_cmp n ns up) (λ m c. below m (later_is n m ns c)))
 
 -- ---- the order of facts
@@ -100,7 +107,8 @@ numbered_less a b lt upto =
         ]
       ]
       | inr const ↦ elim (cases_lt b ANY_NUMBER) as (λ _. values.ghosts.cmp (numbered_value a) (numbered_value b) ≡ Less) [
-        | inl small ↦ (λ i. values.ghosts.cmp (const_is a const (below_last a b lt small) i) (const_is b (past_args a b const lt) small i)) ∙ nat_less (a - MOST_VALUES) (b - MOST_VALUES) (omega arith)
+        | inl small ↦ (λ i. values.ghosts.cmp (const_is a const (below_last a b lt small) i)
+            (const_is b (past_args a b const lt) small i)) ∙ nat_less (a - MOST_VALUES) (b - MOST_VALUES) (omega arith)
         | inr last ↦ (λ i. values.ghosts.cmp (const_is a const (before_last a b lt upto) i) (any_is b last i))
       ]
     ]
@@ -139,13 +147,17 @@ listed_from e m (k ∷ ks) f c =
     (λ later. let l = listed_from e m ks f later in record { own = l.own; one = later_is k l.own ks l.one; number = l.number; there = l.there; is = l.is })
     (Contains-append_cases (facts_at e k (numbers_at m k.point k.slot)) (facts_of e m ks) f c)
 
-listed_to : (e : ℕ) (m : Marks) (ks : List Key) (k : Key) (n : ℕ) → Contains ks k → Contains (numbers_at m k.point k.slot) n → Contains (facts_of e m ks) (fact e k.point k.slot (value_in k.slot n))
+listed_to : (e : ℕ) (m : Marks) (ks : List Key) (k : Key) (n : ℕ) → Contains ks k
+    → Contains (numbers_at m k.point k.slot) n → Contains (facts_of e m ks) (fact e k.point k.slot (value_in k.slot n))
 listed_to e m [] k n c there = absurd (none_in k c)
 listed_to e m (j ∷ ks) k n c there =
     ⊎_elim
     (λ (same : j ≡ k). Contains-append_left (facts_at e j (numbers_at m j.point j.slot)) (facts_of e m ks) (fact e k.point k.slot (value_in k.slot n))
-    (subst (λ (h : Key). Contains (facts_at e h (numbers_at m h.point h.slot)) (fact e k.point k.slot (value_in k.slot n))) (sym same) (to_map (λ i. fact e k.point k.slot (value_in k.slot i)) (numbers_at m k.point k.slot) n there)))
-    (λ rest. Contains-append_right (facts_at e j (numbers_at m j.point j.slot)) (facts_of e m ks) (fact e k.point k.slot (value_in k.slot n)) (listed_to e m ks k n rest there))
+    (subst (λ (h : Key). Contains (facts_at e h (numbers_at m h.point h.slot))
+    (fact e k.point k.slot (value_in k.slot n))) (sym same)
+    (to_map (λ i. fact e k.point k.slot (value_in k.slot i)) (numbers_at m k.point k.slot) n there)))
+    (λ rest. Contains-append_right (facts_at e j (numbers_at m j.point j.slot)) (facts_of e m ks)
+    (fact e k.point k.slot (value_in k.slot n)) (listed_to e m ks k n rest there))
     (first_or_later j k ks c)
 
 module _ (e : ℕ) (m : Marks) (touched : List ℕ) (kept : IsKept m touched) where
@@ -170,19 +182,27 @@ module _ (e : ℕ) (m : Marks) (touched : List ℕ) (kept : IsKept m touched) wh
       (fact_less_key e k.point later.own.point k.slot later.own.slot (value_in k.slot here.0) (value_in later.own.slot later.number)
       (before_rest key_order k ks up later.own later.one))))
 
-  pub facts_exact : (P : Fact → Type 0) (ks : List Key) → IsStrictlySortedBy key_order ks → ((f : Fact) → P f → Knows rows f) → ((f : Fact) → Contains ks (key f.point f.slot) → Knows rows f → P f) → ((f : Fact) → P f → Contains ks (key f.point f.slot)) → AreFacts P (facts_of e m ks)
+  pub facts_exact : (P : Fact → Type 0) (ks : List Key) → IsStrictlySortedBy key_order ks
+      → ((f : Fact) → P f → Knows rows f) → ((f : Fact) → Contains ks (key f.point f.slot) → Knows rows f → P f)
+      → ((f : Fact) → P f → Contains ks (key f.point f.slot)) → AreFacts P (facts_of e m ks)
   facts_exact P ks up known is_one there = record { rising = facts_rise ks up; each = each_one; listed = all_listed }
     where
       each_one : (f : Fact) → Contains (facts_of e m ks) f → P f
       each_one f c =
           let l = listed_from e m ks f c in
-          subst P l.is (is_one (fact e l.own.point l.own.slot (value_in l.own.slot l.number)) l.one (record { entry = refl; value = to_map (value_in l.own.slot) (numbers_at m l.own.point l.own.slot) l.number l.there }))
+          subst P l.is (is_one (fact e l.own.point l.own.slot (value_in l.own.slot l.number)) l.one
+          (record {
+            entry = refl;
+            value = to_map (value_in l.own.slot) (numbers_at m l.own.point l.own.slot)
+                l.number l.there;
+          }))
 
       all_listed : (f : Fact) → P f → Contains (facts_of e m ks) f
       all_listed f h =
           let k = known f h in
           let number = from_map (value_in f.slot) (numbers_at m f.point f.slot) f.value k.value in
-          let is : fact e f.point f.slot (value_in f.slot number.0) ≡ f = (λ i. record { entry = sym k.entry i; point = f.point; slot = f.slot; value = number.2 i }) in
+          let is : fact e f.point f.slot (value_in f.slot number.0)
+          ≡ f = (λ i. record { entry = sym k.entry i; point = f.point; slot = f.slot; value = number.2 i }) in
           subst (Contains (facts_of e m ks)) is (listed_to e m ks (key f.point f.slot) number.0 (there f h) number.1)
 
 -- ---- slots that are the same
@@ -216,11 +236,15 @@ slot_same Awaits Awaits e = refl
 
 -- ---- the points in order
 
-pub points_in_order : (points copy sorted once : List ℕ) → copy ≡ points → IsPermutation copy sorted → IsSorted nat_cmp sorted → IsFiltered (DiffersFromLast nat_eq) [] sorted once → AreNumbers (Contains points) once
+pub points_in_order : (points copy sorted once : List ℕ) → copy ≡ points → IsPermutation copy sorted
+    → IsSorted nat_cmp sorted → IsFiltered (DiffersFromLast nat_eq) [] sorted once → AreNumbers (Contains points) once
 points_in_order points copy sorted once same moved up kept = record {
   rising = subst (IsStrictlySortedBy nat_cmp) (sym is) (IsStrictlySortedBy-dedup nat_cmp_total unsigned_ties sorted up);
-  each = λ p c. subst (λ l. Contains l p) same (Contains-permutation sorted copy p (IsPermutation-sym copy sorted moved) (Contains-from_dedup nat_eq sorted p (subst (λ l. Contains l p) is c)));
-  listed = λ p c. subst (λ l. Contains l p) (sym is) (Contains-dedup_nat sorted p (Contains-permutation copy sorted p moved (subst (λ l. Contains l p) (sym same) c)));
+  each = λ p c. subst (λ l. Contains l p) same
+      (Contains-permutation sorted copy p (IsPermutation-sym copy sorted moved)
+      (Contains-from_dedup nat_eq sorted p (subst (λ l. Contains l p) is c)));
+  listed = λ p c. subst (λ l. Contains l p) (sym is)
+      (Contains-dedup_nat sorted p (Contains-permutation copy sorted p moved (subst (λ l. Contains l p) (sym same) c)));
 }
   where
     is : once ≡ dedup nat_eq sorted

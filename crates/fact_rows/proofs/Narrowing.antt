@@ -1,5 +1,7 @@
--- A row of numbers in two bytes each, or in four: what it tells, and what it becomes where a number is put into it.
-use Rattle.std.proofs.Common.{◌≡◌, ℕ, ◌<◌, ◌≤◌, List, [], ◌∷◌, length, get_or, set, replicate, refl, sym, subst, ap, ◌∙◌, arith, length-set}
+-- A row of numbers in two bytes each, or in four: what it tells, and what it becomes where a number
+-- is put into it.
+use Rattle.std.proofs.Common.{◌≡◌, ℕ, ◌<◌, ◌≤◌, List, [], ◌∷◌, length, get_or, set, replicate, refl}
+use Rattle.std.proofs.Common.{sym, subst, ap, ◌∙◌, arith, length-set}
 use Rattle.std.proofs.lemmas.List.{get_or_default}
 use Rattle.fact_rows.specs.Narrow.{told}
 
@@ -31,12 +33,14 @@ wide_read narrow wide i n lt is =
 pub narrow_put : (narrow wide : List ℕ) (i n : ℕ) → wide ≡ [] → told (set narrow i n) wide ≡ set (told narrow wide) i n
 narrow_put narrow wide i n none = told_narrow (set narrow i n) wide none ∙ ap (λ l. set l i n) (sym (told_narrow narrow wide none))
 
-pub wide_put : (narrow wide new : List ℕ) (i n : ℕ) → new ≡ told narrow wide → i < length (told narrow wide) → told narrow (set new i n) ≡ set (told narrow wide) i n
+pub wide_put : (narrow wide new : List ℕ) (i n : ℕ) → new ≡ told narrow wide → i < length (told narrow wide)
+    → told narrow (set new i n) ≡ set (told narrow wide) i n
 wide_put narrow wide new i n is lt =
     told_wide narrow (set new i n) (let long = length-set new i n in omega (arith, long, lt, ap length is)) ∙ ap (λ l. set l i n) is
 
 -- ---- all numbers are 0
 
-pub told_zeros : (narrow wide zeros wide_zeros : List ℕ) → zeros ≡ replicate (length narrow) 0 → wide_zeros ≡ replicate (length wide) 0 → told zeros wide_zeros ≡ replicate (length (told narrow wide)) 0
+pub told_zeros : (narrow wide zeros wide_zeros : List ℕ) → zeros ≡ replicate (length narrow) 0
+    → wide_zeros ≡ replicate (length wide) 0 → told zeros wide_zeros ≡ replicate (length (told narrow wide)) 0
 told_zeros narrow [] zeros wide_zeros z w = ap (told zeros) w ∙ z
 told_zeros narrow (n ∷ ns) zeros wide_zeros z w = ap (told zeros) w

@@ -1,5 +1,9 @@
 -- Numbers as bits of words.
-use Rattle.std.proofs.Common.{◌≡◌, ◌⊎◌, inl, inr, ◌↔◌, ℕ, zero, suc, ◌+◌, ◌-◌, ◌*◌, ◌/◌, ◌%◌, ◌^◌, ◌<◌, ◌≤◌, Bool, true, false, not, cond, eqb, List, [], ◌∷◌, ◌++◌, length, get_or, set, replicate, Contains, refl, sym, subst, ap, ◌∙◌, arith, length-append, length-set, get_or-set_same, get_or-set_other, eq-eqb, ne_eqb, w64, append_assoc, append-nil}
+use Rattle.std.proofs.Common.{◌≡◌, ◌⊎◌, inl, inr, ◌↔◌, ℕ, zero, suc, ◌+◌, ◌-◌, ◌*◌, ◌/◌, ◌%◌, ◌^◌}
+use Rattle.std.proofs.Common.{◌<◌, ◌≤◌, Bool, true, false, not, cond, eqb, List, [], ◌∷◌, ◌++◌}
+use Rattle.std.proofs.Common.{length, get_or, set, replicate, Contains, refl, sym, subst, ap, ◌∙◌}
+use Rattle.std.proofs.Common.{arith, length-append, length-set, get_or-set_same, get_or-set_other}
+use Rattle.std.proofs.Common.{eq-eqb, ne_eqb, w64, append_assoc, append-nil}
 use Rattle.std.specs.Prelude.{bit_and, bit_or, nat_eq, IsTrue}
 use Rattle.std.specs.Cmp.Lexicographic.{pointwise}
 use Rattle.std.proofs.lemmas.Slice.Eq.{bytes_eq-Decides}
@@ -8,21 +12,30 @@ use Rattle.std.specs.Int.{bit_at, leading_zeros, trailing_zeros}
 use Rattle.std.specs.List.{filter, list_all, range_with_len}
 use Rattle.std.specs.List.Sorted.{IsStrictlySortedBy}
 use Rattle.std.specs.Ordering.{nat_cmp}
-use Rattle.std.proofs.lemmas.Bool.{cases_eq, cases_lt, eqb-true, and_from, and_parts, not-true, true≢false}
+use Rattle.std.proofs.lemmas.Bool.{cases_eq, cases_lt, eqb-true, and_from, and_parts, not-true}
+use Rattle.std.proofs.lemmas.Bool.{true≢false}
 use Rattle.std.proofs.lemmas.List.{get_or-replicate, get_or_past, length-replicate}
-use Rattle.std.proofs.lemmas.List.Elements.{All-contains, All-contains_itself, All-filter, filter_passes, filter-append}
+use Rattle.std.proofs.lemmas.List.Elements.{All-contains, All-contains_itself, All-filter}
+use Rattle.std.proofs.lemmas.List.Elements.{filter_passes, filter-append}
 use Rattle.std.proofs.lemmas.List.FromFn.{length-range_with_len, get_or-range_with_len}
 use Rattle.std.proofs.lemmas.List.Kept.{IsStrictlySortedBy-filter}
 use Rattle.std.proofs.lemmas.Map.Keys.{sorted_from_strictly_increasing}
 use Rattle.std.proofs.lemmas.Nat.{leading_length, one_shl, pow_pos}
-use Rattle.std.proofs.lemmas.Nat.Bits.{bit_at_set_same, bit_at_set_other, bit_at-trailing_zeros, bit_at_above, bit_at-zero, bit_at-lt, and_pow, same_from_bits_below}
+use Rattle.std.proofs.lemmas.Nat.Bits.{bit_at_set_same, bit_at_set_other, bit_at-trailing_zeros}
+use Rattle.std.proofs.lemmas.Nat.Bits.{bit_at_above, bit_at-zero, bit_at-lt, and_pow}
+use Rattle.std.proofs.lemmas.Nat.Bits.{same_from_bits_below}
 use Rattle.plex_num.proofs.Members.{later_is, in_filter}
 use Rattle.fact_rows.specs.Numbers.{has_bit, numbers, AreNumbers, bit_number, bits_of}
 
 -- ---- filters
 
 pub from_filter : {X : Type 0} (p : X → Bool) (xs : List X) (x : X) → Contains (filter p xs) x → Contains xs x × (p x ≡ true)
-from_filter p xs x c = (All-contains (Contains xs) (filter p xs) x (All-filter p (Contains xs) xs (All-contains_itself xs)) c, All-contains (λ y. p y ≡ true) (filter p xs) x (filter_passes p xs) c)
+from_filter p xs x c = (
+  All-contains (Contains xs) (filter p xs) x
+      (All-filter p (Contains xs) xs (All-contains_itself xs)) c,
+  All-contains (λ y. p y ≡ true) (filter p xs) x
+      (filter_passes p xs) c,
+)
 
 pub filter_alike : {X : Type 0} (p q : X → Bool) (xs : List X) → ((x : X) → Contains xs x → p x ≡ q x) → filter p xs ≡ filter q xs
 filter_alike p q [] h = refl
@@ -80,7 +93,8 @@ numbers_rise words = IsStrictlySortedBy-filter nat_cmp (has_bit words) (range_wi
 
 pub number_there : (words : List ℕ) (n : ℕ) → n < 64 * length words → has_bit words n ≡ true → Contains (numbers words) n
 unfolding numbers
-number_there words n within e = in_filter (has_bit words) (range_with_len 0 (64 * length words)) n e (range_has 0 (64 * length words) n (omega arith) (omega arith))
+number_there words n within e = in_filter (has_bit words) (range_with_len 0 (64 * length words)) n e
+    (range_has 0 (64 * length words) n (omega arith) (omega arith))
 
 pub number_set : (words : List ℕ) (n : ℕ) → Contains (numbers words) n → (n < 64 * length words) × (has_bit words n ≡ true)
 unfolding numbers
@@ -100,7 +114,8 @@ zero_at n k = elim (cases_lt k n) [
 
 pub numbers_of_zero : (words : List ℕ) → ((k : ℕ) → get_or words k 0 ≡ 0) → numbers words ≡ []
 unfolding numbers
-numbers_of_zero words zero_words = filter_none (has_bit words) (range_with_len 0 (64 * length words)) (λ k c. ap (λ w. eqb (bit_at w (k % 64)) 1) (zero_words (k / 64)) ∙ ap (λ b. eqb b 1) (bit_at-zero (k % 64)))
+numbers_of_zero words zero_words = filter_none (has_bit words) (range_with_len 0 (64 * length words))
+    (λ k c. ap (λ w. eqb (bit_at w (k % 64)) 1) (zero_words (k / 64)) ∙ ap (λ b. eqb b 1) (bit_at-zero (k % 64)))
 
 pub numbers_zero : (n : ℕ) → numbers (zeros n) ≡ []
 numbers_zero n = numbers_of_zero (zeros n) (zero_at n)
@@ -122,11 +137,14 @@ bit_clear word k h =
           eq-eqb _ 0 (rw (e, none) (omega arith)) ∙ sym (ap not (ne_eqb b 1 other))
     ]
 
-split : (words : List ℕ) (i n : ℕ) → i + (n + 1) ≡ 64 * length words → numbers words ≡ filter (has_bit words) (range_with_len 0 i) ++ filter (has_bit words) (i ∷ range_with_len (i + 1) n)
+split : (words : List ℕ) (i n : ℕ) → i + (n + 1) ≡ 64 * length words
+    → numbers words ≡ filter (has_bit words) (range_with_len 0 i)
+    ++ filter (has_bit words) (i ∷ range_with_len (i + 1) n)
 unfolding numbers
 split words i n e =
     let from : 0 + i ≡ i = omega arith in
-    ap (filter (has_bit words)) (range_two 0 i (n + 1) (64 * length words) e ∙ ap (λ l. range_with_len 0 i ++ l) (ap (λ a. range_with_len a (n + 1)) from ∙ range_first i n (n + 1) refl))
+    ap (filter (has_bit words)) (range_two 0 i (n + 1) (64 * length words) e
+    ∙ ap (λ l. range_with_len 0 i ++ l) (ap (λ a. range_with_len a (n + 1)) from ∙ range_first i n (n + 1) refl))
     ∙ filter-append (has_bit words) (range_with_len 0 i) (i ∷ range_with_len (i + 1) n)
 
 -- a list with one number put in, if it is not there
@@ -178,8 +196,12 @@ module _ (words : List ℕ) (i : ℕ) (within : i < 64 * length words) where
       let n : ℕ = 64 * length words - (i + 1) in
       let all : i + (n + 1) ≡ 64 * length words = omega arith in
       let all_new : i + (n + 1) ≡ 64 * length new_words = all ∙ ap (λ l. 64 * l) (sym as_long) in
-      let low : filter (has_bit new_words) (range_with_len 0 i) ≡ filter (has_bit words) (range_with_len 0 i) = filter_alike (has_bit new_words) (has_bit words) (range_with_len 0 i) (λ k c. set_other k (let lt = (in_range 0 i k c).1 in λ e. omega arith)) in
-      let high : filter (has_bit new_words) (range_with_len (i + 1) n) ≡ filter (has_bit words) (range_with_len (i + 1) n) = filter_alike (has_bit new_words) (has_bit words) (range_with_len (i + 1) n) (λ k c. set_other k (let ge = (in_range (i + 1) n k c).0 in λ e. omega arith)) in
+      let low : filter (has_bit new_words) (range_with_len 0 i)
+      ≡ filter (has_bit words) (range_with_len 0 i) = filter_alike (has_bit new_words) (has_bit words)
+      (range_with_len 0 i) (λ k c. set_other k (let lt = (in_range 0 i k c).1 in λ e. omega arith)) in
+      let high : filter (has_bit new_words) (range_with_len (i + 1) n)
+      ≡ filter (has_bit words) (range_with_len (i + 1) n) = filter_alike (has_bit new_words) (has_bit words)
+      (range_with_len (i + 1) n) (λ k c. set_other k (let ge = (in_range (i + 1) n k c).0 in λ e. omega arith)) in
       record {
         front = filter (has_bit words) (range_with_len 0 i);
         back = filter (has_bit words) (range_with_len (i + 1) n);
@@ -190,8 +212,11 @@ module _ (words : List ℕ) (i : ℕ) (within : i < 64 * length words) where
   fresh_is : eqb (bit_and word (1 * 2 ^ (i % 64) % 2 ^ 64)) 0 ≡ not (has_bit words i)
   fresh_is = bit_clear word (i % 64) (omega arith)
 
-  pub set_counted : MatchBool (eqb (bit_and word (1 * 2 ^ (i % 64) % 2 ^ 64)) 0) (length (numbers new_words) ≡ length (numbers words) + 1) (numbers new_words ≡ numbers words)
-  set_counted = subst (λ b. MatchBool b (length (numbers new_words) ≡ length (numbers words) + 1) (numbers new_words ≡ numbers words)) (sym fresh_is) (one_more i (has_bit words i) (numbers words) (numbers new_words) put_in)
+  pub set_counted : MatchBool (eqb (bit_and word (1 * 2 ^ (i % 64) % 2 ^ 64)) 0)
+      (length (numbers new_words) ≡ length (numbers words) + 1) (numbers new_words ≡ numbers words)
+  set_counted = subst (λ b. MatchBool b (length (numbers new_words) ≡ length (numbers words) + 1)
+      (numbers new_words ≡ numbers words)) (sym fresh_is)
+      (one_more i (has_bit words i) (numbers words) (numbers new_words) put_in)
 
   pub set_added : IsTrue (eqb (bit_and word (1 * 2 ^ (i % 64) % 2 ^ 64)) 0) ↔ (Contains (numbers words) i → ⊥)
   set_added = (
@@ -241,7 +266,8 @@ all_zero_at (w ∷ words) e (suc k) = all_zero_at words (and_parts (eqb w 0) (li
 
 each_zero : (words : List ℕ) → ((k : ℕ) → k < length words → get_or words k 0 ≡ 0) → list_all (λ (w : ℕ). eqb w 0) words ≡ true
 each_zero [] h = refl
-each_zero (w ∷ words) h = and_from (eqb w 0) (list_all (λ (u : ℕ). eqb u 0) words) (eq-eqb w 0 (h 0 (omega arith))) (each_zero words (λ k lt. h (suc k) (omega arith)))
+each_zero (w ∷ words) h = and_from (eqb w 0) (list_all (λ (u : ℕ). eqb u 0) words) (eq-eqb w 0 (h 0 (omega arith)))
+    (each_zero words (λ k lt. h (suc k) (omega arith)))
 
 pub at_row : (words : List ℕ) (k r : ℕ) → r < 64 → has_bit words (64 * k + r) ≡ eqb (bit_at (get_or words k 0) r) 1
 at_row words k r lt =
@@ -254,7 +280,9 @@ none_there words fits none k lt =
     same_from_bits_below 64 (get_or words k 0) 0 (fits k) (omega arith) (λ r small.
     let b : ℕ = bit_at (get_or words k 0) r in
     elim (cases_eq b 1) as (λ _. b ≡ bit_at 0 r) [
-      | inl one ↦ absurd (let c = subst (λ l. Contains l (64 * k + r)) none (number_there words (64 * k + r) (omega arith) (at_row words k r small ∙ eq-eqb b 1 one)) in let past = c.1 in omega arith)
+      | inl one ↦ absurd (let c = subst (λ l. Contains l (64 * k + r)) none
+          (number_there words (64 * k + r) (omega arith) (at_row words k r small ∙ eq-eqb b 1 one)) in let past =
+          c.1 in omega arith)
       | inr other ↦ (let zero_bit : b ≡ 0 = omega (arith, bit_at-lt (get_or words k 0) r) in zero_bit ∙ sym (bit_at-zero r))
     ])
 
@@ -291,19 +319,24 @@ some_word (suc word) h = omega arith
 
 pub bits_begin : (word first : ℕ) (old : List ℕ) → word < 2 ^ 64 → (word ≡ 0 → ⊥) → old ≡ old ++ bits_of word first (trailing_zeros w64 word)
 bits_begin word first old fits some =
-    sym (append-nil old) ∙ ap (λ l. old ++ l) (sym (bits_below word first (trailing_zeros w64 word) (bit_at-trailing_zeros w64 word (some_word word some) fits).2))
+    sym (append-nil old) ∙ ap (λ l. old ++ l) (sym
+    (bits_below word first (trailing_zeros w64 word) (bit_at-trailing_zeros w64 word (some_word word some) fits).2))
 
-pub bits_end : (word first b : ℕ) (start now : List ℕ) → word < 2 ^ 64 → 64 - leading_zeros w64 word ≤ b → now ≡ start ++ bits_of word first b → now ≡ start ++ bits_of word first 64
+pub bits_end : (word first b : ℕ) (start now : List ℕ) → word < 2 ^ 64 → 64 - leading_zeros w64 word ≤ b
+    → now ≡ start ++ bits_of word first b → now ≡ start ++ bits_of word first 64
 bits_end word first b start now fits past h =
     let top = leading_length 64 word fits in
     let all = top.1 in
     h ∙ ap (λ l. start ++ l) (bits_above word first top.0 b top.2 (omega (arith, all, past)) ∙ sym (bits_above word first top.0 64 top.2 (omega (arith, all))))
 
-pub bits_more : (word first b : ℕ) (start old new : List ℕ) → old ≡ start ++ bits_of word first b → new ≡ old ++ bit_number word first b → new ≡ start ++ bits_of word first (b + 1)
+pub bits_more : (word first b : ℕ) (start old new : List ℕ) → old ≡ start ++ bits_of word first b
+    → new ≡ old ++ bit_number word first b → new ≡ start ++ bits_of word first (b + 1)
 unfolding bits_of
 bits_more word first b start old new before now =
     let next : b + 1 ≡ suc b = omega arith in
-    now ∙ ap (λ l. l ++ bit_number word first b) before ∙ append_assoc start (bits_of word first b) (bit_number word first b) ∙ ap (λ n. start ++ bits_of word first n) (sym next)
+    now ∙ ap (λ l. l ++ bit_number word first b) before
+    ∙ append_assoc start (bits_of word first b) (bit_number word first b)
+    ∙ ap (λ n. start ++ bits_of word first n) (sym next)
 
 pub bits_none : (word first n : ℕ) → word ≡ 0 → bits_of word first n ≡ []
 unfolding bits_of
@@ -330,13 +363,16 @@ pub below_begin : (words : List ℕ) → [] ≡ below words 0
 unfolding below
 below_begin words = refl
 
-pub below_more : (words : List ℕ) (place : ℕ) (old new : List ℕ) → old ≡ below words place → new ≡ old ++ bits_of (get_or words place 0) (64 * place) 64 → new ≡ below words (place + 1)
+pub below_more : (words : List ℕ) (place : ℕ) (old new : List ℕ) → old ≡ below words place
+    → new ≡ old ++ bits_of (get_or words place 0) (64 * place) 64 → new ≡ below words (place + 1)
 unfolding below
 below_more words place old new before now =
     now
     ∙ (λ i. before i ++ bits_in words place 64 (omega arith) i)
     ∙ sym (filter-append (has_bit words) (range_with_len 0 (64 * place)) (range_with_len (64 * place) 64))
-    ∙ ap (filter (has_bit words)) (sym (range_two 0 (64 * place) 64 (64 * (place + 1)) (omega arith) ∙ ap (λ a. range_with_len 0 (64 * place) ++ range_with_len a 64) (let from : 0 + 64 * place ≡ 64 * place = omega arith in from)))
+    ∙ ap (filter (has_bit words)) (sym (range_two 0 (64 * place) 64 (64 * (place + 1)) (omega arith)
+    ∙ ap (λ a. range_with_len 0 (64 * place) ++ range_with_len a 64)
+    (let from : 0 + 64 * place ≡ 64 * place = omega arith in from)))
 
 pub below_none : (words : List ℕ) (place : ℕ) (list : List ℕ) → list ≡ below words place → get_or words place 0 ≡ 0 → list ≡ below words (place + 1)
 below_none words place list before none =

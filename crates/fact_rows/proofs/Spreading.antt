@@ -1,10 +1,15 @@
 -- A row of sets that share their bits: what it becomes where a set is laid out, kept or changed.
-use Rattle.std.proofs.Common.{◌≡◌, ◌⊎◌, inl, inr, ℕ, ◌+◌, ◌-◌, ◌*◌, ◌^◌, ◌<◌, ◌≤◌, Bool, true, false, List, [], ◌++◌, length, get_or, set, take, drop, replicate, Contains, ◌↔◌, refl, sym, subst, ap, ◌∙◌, arith, append-nil, length-append, length-set, get_or-set_same, get_or-set_other}
+use Rattle.std.proofs.Common.{◌≡◌, ◌⊎◌, inl, inr, ℕ, ◌+◌, ◌-◌, ◌*◌, ◌^◌, ◌<◌, ◌≤◌, Bool, true}
+use Rattle.std.proofs.Common.{false, List, [], ◌++◌, length, get_or, set, take, drop, replicate}
+use Rattle.std.proofs.Common.{Contains, ◌↔◌, refl, sym, subst, ap, ◌∙◌, arith, append-nil}
+use Rattle.std.proofs.Common.{length-append, length-set, get_or-set_same, get_or-set_other}
 use Rattle.std.specs.Prelude.{nat_eq, nat_lt, IsTrue}
 use Rattle.std.specs.Bool.{MatchBool}
 use Rattle.std.specs.List.{All}
-use Rattle.std.proofs.lemmas.Bool.{cases_eq, cases_lt, cond-true, cond-false, eq-eqb, ne_eqb, lt-ltb, le-ltb, false≢true}
-use Rattle.std.proofs.lemmas.List.{ext_get_or, get_or_default, length-drop, length-replicate, length-take-le, drop-append-le, take-append-le, take_all}
+use Rattle.std.proofs.lemmas.Bool.{cases_eq, cases_lt, cond-true, cond-false, eq-eqb, ne_eqb}
+use Rattle.std.proofs.lemmas.Bool.{lt-ltb, le-ltb, false≢true}
+use Rattle.std.proofs.lemmas.List.{ext_get_or, get_or_default, length-drop, length-replicate}
+use Rattle.std.proofs.lemmas.List.{length-take-le, drop-append-le, take-append-le, take_all}
 use Rattle.std.proofs.lemmas.List.FromFn.{length-map-range_with_len, get_or-map-range_with_len}
 use Rattle.std.proofs.lemmas.List.Elements.{All-get_or, All-replicate, All-set, All-weaker}
 use Rattle.std.proofs.Math.Seq.{drop-append_seam}
@@ -12,14 +17,16 @@ use Rattle.fact_rows.specs.declared.sets.Sets.{Sets}
 use Rattle.fact_rows.specs.declared.planes.Planes.{Planes}
 use Rattle.fact_rows.specs.Numbers.{AreNumbers, numbers}
 use Rattle.fact_rows.specs.Grids.{IsSetAt}
-use Rattle.fact_rows.specs.Spread.{words_at, set_in, shown_at, row_of, AreWordsAt, HasSet, IsAlike, IsGrown, IsLonger, IsPassed, IsSound, IsWordsOf, KeepsRow}
+use Rattle.fact_rows.specs.Spread.{words_at, set_in, shown_at, row_of, AreWordsAt, HasSet, IsAlike}
+use Rattle.fact_rows.specs.Spread.{IsGrown, IsLonger, IsPassed, IsSound, IsWordsOf, KeepsRow}
 use Rattle.fact_rows.proofs.Numbering.{numbers_zero}
 
 -- ---- the words of a set
 
 words_before : (words rest : List ℕ) (width o : ℕ) → o + width ≤ length words → words_at (words ++ rest) width o ≡ words_at words width o
 words_before words rest width o le =
-    ap (take width) (drop-append-le o words rest (omega arith)) ∙ take-append-le width (drop o words) rest (let long = length-drop o words in omega (arith, le, long))
+    ap (take width) (drop-append-le o words rest (omega arith))
+    ∙ take-append-le width (drop o words) rest (let long = length-drop o words in omega (arith, le, long))
 
 words_last : (words own : List ℕ) (width : ℕ) → length own ≡ width → words_at (words ++ own) width (length words) ≡ own
 words_last words own width long = ap (take width) (drop-append_seam words own) ∙ take_all width own (omega arith)
@@ -29,10 +36,12 @@ words_long words width o le = length-take-le width (drop o words) (let long = le
 
 -- a list of which all items were written
 pub written_over : (count : ℕ) (old new : List ℕ) → count ≡ length old → length new ≡ length old → take count (new ++ drop (length new) old) ≡ new
-written_over count old new long same = take-append-le count new (drop (length new) old) (omega (arith, long, same)) ∙ take_all count new (omega (arith, long, same))
+written_over count old new long same = take-append-le count new (drop (length new) old) (omega (arith, long, same))
+    ∙ take_all count new (omega (arith, long, same))
 
 -- a set is kept behind the others
-pub set_kept : (s new : Sets) (n : ℕ) (own : List ℕ) → length own ≡ s.width → new.first ≡ s.first → new.width ≡ s.width → n ≡ s.first + length s.words.items → new.words.items ≡ s.words.items ++ own → HasSet new n own
+pub set_kept : (s new : Sets) (n : ℕ) (own : List ℕ) → length own ≡ s.width → new.first ≡ s.first → new.width ≡ s.width
+    → n ≡ s.first + length s.words.items → new.words.items ≡ s.words.items ++ own → HasSet new n own
 set_kept s new n own long first width is words = record {
   from = omega (arith, first, is);
   within = omega (arith, first, width, is, long, ap length words, length-append s.words.items own);
@@ -48,7 +57,8 @@ pub as_long : (words : List ℕ) (first width : ℕ) → IsGrown words first wid
 as_long words first width = record { same_first = refl; same_width = refl; rest = []; all = sym (append-nil words) }
 
 -- a number that has the words of a set is its number
-pub set_found : (s : Sets) (n : ℕ) (kept own : List ℕ) → n + s.width ≤ s.first + length s.words.items → IsWordsOf s.words.items s.first s.width n kept → kept ≡ own → HasSet s n own
+pub set_found : (s : Sets) (n : ℕ) (kept own : List ℕ) → n + s.width ≤ s.first + length s.words.items
+    → IsWordsOf s.words.items s.first s.width n kept → kept ≡ own → HasSet s n own
 set_found s n kept own within h same = record { from = h.from; within = within; is = sym same ∙ h.is }
 
 -- ---- the set of a number
@@ -62,7 +72,8 @@ set_there words first width n le = cond-false (nat_lt n first) [] (numbers (word
 set_before : (words rest : List ℕ) (first width n : ℕ) → n + width ≤ first + length words → set_in (words ++ rest) first width n ≡ set_in words first width n
 set_before words rest first width n le = elim (cases_lt n first) as (λ _. set_in (words ++ rest) first width n ≡ set_in words first width n) [
   | inl lt ↦ set_below (words ++ rest) first width n lt ∙ sym (set_below words first width n lt)
-  | inr ge ↦ set_there (words ++ rest) first width n ge ∙ ap numbers (words_before words rest width (n - first) (omega arith)) ∙ sym (set_there words first width n ge)
+  | inr ge ↦ set_there (words ++ rest) first width n ge
+      ∙ ap numbers (words_before words rest width (n - first) (omega arith)) ∙ sym (set_there words first width n ge)
 ]
 
 -- ---- the row
@@ -85,7 +96,8 @@ pub row_at : (p : Planes) (i : ℕ) → i < length p.set_numbers → get_or (row
 unfolding row_of
 row_at p i lt = get_or-map-range_with_len (shown_at p) 0 (length p.set_numbers) i i [] lt (omega arith)
 
-row_same : (old new : Planes) → length new.set_numbers ≡ length old.set_numbers → ((j : ℕ) → j < length old.set_numbers → shown_at new j ≡ shown_at old j) → row_of new ≡ row_of old
+row_same : (old new : Planes) → length new.set_numbers ≡ length old.set_numbers
+    → ((j : ℕ) → j < length old.set_numbers → shown_at new j ≡ shown_at old j) → row_of new ≡ row_of old
 row_same old new long each = ext_get_or [] (row_of new) (row_of old) (row_long new ∙ long ∙ sym (row_long old)) at
   where
     at : (j : ℕ) → j < length (row_of new) → get_or (row_of new) j [] ≡ get_or (row_of old) j []
@@ -99,7 +111,8 @@ row_same old new long each = ext_get_or [] (row_of new) (row_of old) (row_long n
 in_list : (p : Planes) → IsSound p → (i : ℕ) → i < length p.set_numbers → get_or p.set_numbers i 0 + p.sets.width ≤ p.sets.first + length p.sets.words.items
 in_list p sound i lt = All-get_or (λ n. n + p.sets.width ≤ p.sets.first + length p.sets.words.items) p.set_numbers i 0 lt sound.within
 
-pub number_inside : (p : Planes) (i n : ℕ) → IsSound p → i < length p.set_numbers → n ≡ get_or p.set_numbers i 0 → n + p.sets.width ≤ p.sets.first + length p.sets.words.items
+pub number_inside : (p : Planes) (i n : ℕ) → IsSound p → i < length p.set_numbers → n ≡ get_or p.set_numbers i 0
+    → n + p.sets.width ≤ p.sets.first + length p.sets.words.items
 number_inside p i n sound lt is =
     subst (λ m. m + p.sets.width ≤ p.sets.first + length p.sets.words.items) (sym is) (in_list p sound i lt)
 
@@ -108,7 +121,9 @@ number_inside p i n sound lt is =
 pub open_words : (p : Planes) (i : ℕ) → IsSound p → i < length p.set_numbers → i ≡ p.own → AreWordsAt p i p.laid.items
 open_words p i sound lt own = record { long = sound.laid_so; is = sym (row_at p i lt ∙ shown_own p i own) }
 
-pub kept_words : (p : Planes) (i n : ℕ) (words : List ℕ) → IsSound p → i < length p.set_numbers → (i ≡ p.own → ⊥) → n ≡ get_or p.set_numbers i 0 → IsWordsOf p.sets.words.items p.sets.first p.sets.width n words → AreWordsAt p i words
+pub kept_words : (p : Planes) (i n : ℕ) (words : List ℕ) → IsSound p → i < length p.set_numbers → (i ≡ p.own → ⊥)
+    → n ≡ get_or p.set_numbers i 0 → IsWordsOf p.sets.words.items p.sets.first p.sets.width n words
+    → AreWordsAt p i words
 kept_words p i n words sound lt apart is h =
     let from = h.from in
     let inside = number_inside p i n sound lt is in
@@ -117,15 +132,19 @@ kept_words p i n words sound lt apart is h =
       long = ap length h.is ∙ words_long p.sets.words.items p.sets.width (n - p.sets.first) (omega (arith, from, inside));
       is =
           ap numbers h.is
-          ∙ sym (row_at p i lt ∙ shown_kept p i apart ∙ ap (set_in p.sets.words.items p.sets.first p.sets.width) read ∙ set_there p.sets.words.items p.sets.first p.sets.width n from);
+          ∙ sym (row_at p i lt ∙ shown_kept p i apart ∙ ap (set_in p.sets.words.items p.sets.first p.sets.width) read
+          ∙ set_there p.sets.words.items p.sets.first p.sets.width n from);
     }
 
-pub no_words : (p : Planes) (i n : ℕ) → i < length p.set_numbers → (i ≡ p.own → ⊥) → n ≡ get_or p.set_numbers i 0 → n < p.sets.first → [] ≡ get_or (row_of p) i []
+pub no_words : (p : Planes) (i n : ℕ) → i < length p.set_numbers → (i ≡ p.own → ⊥) → n ≡ get_or p.set_numbers i 0
+    → n < p.sets.first → [] ≡ get_or (row_of p) i []
 no_words p i n lt apart is below =
     let read : get_or p.set_numbers i 0 ≡ n = sym is in
-    sym (row_at p i lt ∙ shown_kept p i apart ∙ ap (set_in p.sets.words.items p.sets.first p.sets.width) read ∙ set_below p.sets.words.items p.sets.first p.sets.width n below)
+    sym (row_at p i lt ∙ shown_kept p i apart ∙ ap (set_in p.sets.words.items p.sets.first p.sets.width) read
+    ∙ set_below p.sets.words.items p.sets.first p.sets.width n below)
 
-pub words_blank : (p : Planes) (i : ℕ) (words : List ℕ) (b : Bool) → AreWordsAt p i words → (IsTrue b ↔ (numbers words ≡ [])) → IsTrue b ↔ (get_or (row_of p) i [] ≡ [])
+pub words_blank : (p : Planes) (i : ℕ) (words : List ℕ) (b : Bool) → AreWordsAt p i words
+    → (IsTrue b ↔ (numbers words ≡ [])) → IsTrue b ↔ (get_or (row_of p) i [] ≡ [])
 words_blank p i words b h are = subst (λ l. IsTrue b ↔ (l ≡ [])) h.is are
 
 pub none_blank : (p : Planes) (i : ℕ) → [] ≡ get_or (row_of p) i [] → IsTrue true ↔ (get_or (row_of p) i [] ≡ [])
@@ -140,13 +159,16 @@ pub keeps_itself : (p : Planes) → IsSound p → KeepsRow p p
 keeps_itself p sound = record { sound = sound; long = refl; width = refl }
 
 -- another set is laid out, or this one is changed
-pub keeps_same : (old new : Planes) → IsSound old → new.sets ≡ old.sets → new.set_numbers ≡ old.set_numbers → length new.laid.items ≡ new.sets.width → KeepsRow old new
+pub keeps_same : (old new : Planes) → IsSound old → new.sets ≡ old.sets → new.set_numbers ≡ old.set_numbers
+    → length new.laid.items ≡ new.sets.width → KeepsRow old new
 keeps_same old new sound sets_so numbers_so wide_so = record {
   sound = record {
     wide = subst (λ (s : Sets). 0 < s.width) (sym sets_so) sound.wide;
     fits = subst (λ (s : Sets). 64 * s.width ≤ 2 ^ 32) (sym sets_so) sound.fits;
     laid_so = wide_so;
-    within = subst (λ l. All (λ m. m + new.sets.width ≤ new.sets.first + length new.sets.words.items) l) (sym numbers_so) (subst (λ (s : Sets). All (λ m. m + s.width ≤ s.first + length s.words.items) old.set_numbers) (sym sets_so) sound.within);
+    within = subst (λ l. All (λ m. m + new.sets.width ≤ new.sets.first + length new.sets.words.items) l)
+        (sym numbers_so) (subst (λ (s : Sets). All (λ m. m + s.width ≤ s.first + length s.words.items) old.set_numbers)
+        (sym sets_so) sound.within);
   };
   long = ap length numbers_so;
   width = ap (λ (s : Sets). s.width) sets_so;
@@ -234,13 +256,15 @@ module _ (old new : Planes) (sound : IsSound old) (longer : IsLonger old.sets ne
                 ∙ set_there new.sets.words.items new.sets.first new.sets.width n has.from
                 ∙ ap numbers (sym has.is) ∙ sym (shown_own old j own))
             | inr apart ↦
-                (let read : get_or new.set_numbers j 0 ≡ get_or old.set_numbers j 0 = ap (λ l. get_or l j 0) numbers_so ∙ get_or-set_other old.set_numbers old.own j n 0 apart in
+                (let read : get_or new.set_numbers j 0 ≡ get_or old.set_numbers j 0 = ap (λ l. get_or l j 0) numbers_so
+                ∙ get_or-set_other old.set_numbers old.own j n 0 apart in
                 out ∙ ap (set_in new.sets.words.items new.sets.first new.sets.width) read
                 ∙ still_set (get_or old.set_numbers j 0) (in_list old sound j lt) ∙ sym (shown_kept old j apart))
           ]
 
 -- a set is laid out where none was
-module _ (old new : Planes) (i n : ℕ) (sound : IsSound old) (past : length old.set_numbers ≤ old.own) (lt : i < length old.set_numbers) (is : n ≡ get_or old.set_numbers i 0)
+module _ (old new : Planes) (i n : ℕ) (sound : IsSound old) (past : length old.set_numbers ≤ old.own)
+    (lt : i < length old.set_numbers) (is : n ≡ get_or old.set_numbers i 0)
     (sets_so : new.sets ≡ old.sets) (numbers_so : new.set_numbers ≡ old.set_numbers) (own_so : new.own ≡ i) where
   out_alike : length new.laid.items ≡ new.sets.width → numbers new.laid.items ≡ set_in old.sets.words.items old.sets.first old.sets.width n → IsAlike old new
   out_alike wide_so open_so = record {
@@ -259,7 +283,9 @@ module _ (old new : Planes) (i n : ℕ) (sound : IsSound old) (past : length old
                 (shown_own new j own ∙ open_so
                 ∙ ap (set_in old.sets.words.items old.sets.first old.sets.width) (read ∙ ap (λ k. get_or old.set_numbers k 0) (sym (own ∙ own_so)))
                 ∙ in_old)
-            | inr apart ↦ shown_kept new j apart ∙ (λ k. set_in (sets_so k).words.items (sets_so k).first (sets_so k).width (get_or (numbers_so k) j 0)) ∙ in_old
+            | inr apart ↦ shown_kept new j apart
+                ∙ (λ k. set_in (sets_so k).words.items (sets_so k).first (sets_so k).width (get_or (numbers_so k) j 0))
+                ∙ in_old
           ]
 
   pub some_out : (words : List ℕ) → IsWordsOf old.sets.words.items old.sets.first old.sets.width n words → new.laid.items ≡ words → IsAlike old new
@@ -267,7 +293,8 @@ module _ (old new : Planes) (i n : ℕ) (sound : IsSound old) (past : length old
       let from = h.from in
       let inside = number_inside old i n sound lt is in
       out_alike
-      (ap length (same ∙ h.is) ∙ words_long old.sets.words.items old.sets.width (n - old.sets.first) (omega (arith, from, inside)) ∙ sym (ap (λ (s : Sets). s.width) sets_so))
+      (ap length (same ∙ h.is) ∙ words_long old.sets.words.items old.sets.width (n - old.sets.first)
+      (omega (arith, from, inside)) ∙ sym (ap (λ (s : Sets). s.width) sets_so))
       (ap numbers (same ∙ h.is) ∙ sym (set_there old.sets.words.items old.sets.first old.sets.width n from))
 
   pub none_out : n < old.sets.first → (count : ℕ) → count ≡ old.sets.width → new.laid.items ≡ replicate count 0 → IsAlike old new
@@ -278,8 +305,12 @@ module _ (old new : Planes) (i n : ℕ) (sound : IsSound old) (past : length old
 
 -- ---- the set that is laid out is changed
 
-pub row_changed : (mid new : Planes) (i : ℕ) (words : List ℕ) → mid.own ≡ i → new.sets ≡ mid.sets → new.set_numbers ≡ mid.set_numbers → new.own ≡ mid.own → new.laid.items ≡ words → i < length mid.set_numbers → row_of new ≡ set (row_of mid) i (numbers words)
-row_changed mid new i words own sets_so numbers_so own_so words_so inside = ext_get_or [] (row_of new) (set (row_of mid) i (numbers words)) (row_long new ∙ ap length numbers_so ∙ sym (length-set (row_of mid) i (numbers words) ∙ row_long mid)) each
+pub row_changed : (mid new : Planes) (i : ℕ) (words : List ℕ) → mid.own ≡ i → new.sets ≡ mid.sets
+    → new.set_numbers ≡ mid.set_numbers → new.own ≡ mid.own → new.laid.items ≡ words → i < length mid.set_numbers
+    → row_of new ≡ set (row_of mid) i (numbers words)
+row_changed mid new i words own sets_so numbers_so own_so words_so inside = ext_get_or [] (row_of new)
+    (set (row_of mid) i (numbers words)) (row_long new ∙ ap length numbers_so
+    ∙ sym (length-set (row_of mid) i (numbers words) ∙ row_long mid)) each
   where
     each : (j : ℕ) → j < length (row_of new) → get_or (row_of new) j [] ≡ get_or (set (row_of mid) i (numbers words)) j []
     each j below =
@@ -301,11 +332,14 @@ row_changed mid new i words own sets_so numbers_so own_so words_so inside = ext_
 -- ---- a number more in the set that is laid out
 
 module _ (old mid new : Planes) (i n : ℕ) (added : Bool) (alike : IsAlike old mid) (own : mid.own ≡ i) (lt : i < length old.set_numbers)
-    (sets_so : new.sets ≡ mid.sets) (numbers_so : new.set_numbers ≡ mid.set_numbers) (own_so : new.own ≡ mid.own) (long_so : length new.laid.items ≡ length mid.laid.items) where
+    (sets_so : new.sets ≡ mid.sets) (numbers_so : new.set_numbers ≡ mid.set_numbers) (own_so : new.own ≡ mid.own)
+    (long_so : length new.laid.items ≡ length mid.laid.items) where
   inside : i < length mid.set_numbers
   inside = omega (arith, lt, alike.keeps.long)
 
-  pub more_set : (seen words : List ℕ) → seen ≡ mid.laid.items → new.laid.items ≡ words → AreNumbers (λ m. (m ≡ n) ⊎ Contains (numbers seen) m) (numbers words) → (IsTrue added ↔ (Contains (numbers seen) n → ⊥))
+  pub more_set : (seen words : List ℕ) → seen ≡ mid.laid.items → new.laid.items ≡ words
+      → AreNumbers (λ m. (m ≡ n) ⊎ Contains (numbers seen) m) (numbers words)
+      → (IsTrue added ↔ (Contains (numbers seen) n → ⊥))
       → MatchBool added (length (numbers words) ≡ length (numbers seen) + 1) (numbers words ≡ numbers seen)
       → IsSetAt (row_of old) i n added (row_of new)
   more_set seen words seen_so words_so are fresh counted = subst (λ r. IsSetAt r i n added (row_of new)) alike.same (record {
@@ -321,7 +355,9 @@ module _ (old mid new : Planes) (i n : ℕ) (added : Bool) (alike : IsAlike old 
       was = ap numbers seen_so ∙ sym (row_at mid i inside ∙ shown_own mid i (sym own))
 
   pub more_keeps : KeepsRow old new
-  more_keeps = keeps_then old mid new alike.keeps (keeps_same mid new alike.keeps.sound sets_so numbers_so (long_so ∙ alike.keeps.sound.laid_so ∙ sym (ap (λ (s : Sets). s.width) sets_so)))
+  more_keeps = keeps_then old mid new alike.keeps
+      (keeps_same mid new alike.keeps.sound sets_so numbers_so
+      (long_so ∙ alike.keeps.sound.laid_so ∙ sym (ap (λ (s : Sets). s.width) sets_so)))
 
 pub open_wide : (old mid : Planes) (n : ℕ) → IsAlike old mid → n < 64 * old.sets.width → n < 64 * length mid.laid.items
 open_wide old mid n alike lt = subst (λ w. n < 64 * w) (sym (alike.keeps.sound.laid_so ∙ alike.keeps.width)) lt
@@ -342,14 +378,19 @@ module _ (p : Planes) (count : ℕ) (wide : 0 < p.sets.width) (first_so : p.sets
     wide = wide;
     fits = fits;
     laid_so = open_so;
-    within = subst (All (λ n. n + p.sets.width ≤ p.sets.first + length p.sets.words.items)) (sym numbers_so) (All-replicate (λ n. n + p.sets.width ≤ p.sets.first + length p.sets.words.items) count 0 (omega (arith, first_so)));
+    within = subst (All (λ n. n + p.sets.width ≤ p.sets.first + length p.sets.words.items)) (sym numbers_so)
+        (All-replicate (λ n. n + p.sets.width ≤ p.sets.first + length p.sets.words.items) count 0
+        (omega (arith, first_so)));
   }
 
   pub zeros_blank : length p.set_numbers ≤ p.own → All (λ ns. ns ≡ []) (row_of p)
-  zeros_blank past = blank_row p past (subst (All (λ n. n < p.sets.first)) (sym numbers_so) (All-replicate (λ n. n < p.sets.first) count 0 (omega (arith, first_so, wide))))
+  zeros_blank past = blank_row p past (subst (All (λ n. n < p.sets.first)) (sym numbers_so)
+      (All-replicate (λ n. n < p.sets.first) count 0 (omega (arith, first_so, wide))))
 
 -- a row begins anew
-module _ (old new : Planes) (mid : Sets) (done : Bool) (count : ℕ) (sound : IsSound old) (passed : IsPassed old.sets mid done) (width_so : new.sets.width ≡ mid.width) (first_so : new.sets.first ≡ mid.width) (numbers_so : new.set_numbers ≡ replicate count 0) where
+module _ (old new : Planes) (mid : Sets) (done : Bool) (count : ℕ) (sound : IsSound old)
+    (passed : IsPassed old.sets mid done) (width_so : new.sets.width ≡ mid.width)
+    (first_so : new.sets.first ≡ mid.width) (numbers_so : new.set_numbers ≡ replicate count 0) where
   pub anew_keeps : count ≡ length old.set_numbers → new.laid.items ≡ old.laid.items → KeepsRow old new
   anew_keeps many open_so = record {
     sound =
@@ -363,7 +404,8 @@ module _ (old new : Planes) (mid : Sets) (done : Bool) (count : ℕ) (sound : Is
   anew_blank past = zeros_blank new count (omega (arith, width_so, passed.width, sound.wide)) (first_so ∙ sym width_so) numbers_so past
 
 -- a row is cleared by counting on
-module _ (old new : Planes) (done : Bool) (sound : IsSound old) (passed : IsPassed old.sets new.sets done) (so : done ≡ true) (numbers_so : new.set_numbers ≡ old.set_numbers) where
+module _ (old new : Planes) (done : Bool) (sound : IsSound old) (passed : IsPassed old.sets new.sets done)
+    (so : done ≡ true) (numbers_so : new.set_numbers ≡ old.set_numbers) where
   pub passed_keeps : new.laid.items ≡ old.laid.items → KeepsRow old new
   passed_keeps open_so = record {
     sound = record {
@@ -371,7 +413,8 @@ module _ (old new : Planes) (done : Bool) (sound : IsSound old) (passed : IsPass
       fits = subst (λ n. 64 * n ≤ 2 ^ 32) (sym passed.width) sound.fits;
       laid_so = ap length open_so ∙ sound.laid_so ∙ sym passed.width;
       within = subst (All (λ n. n + new.sets.width ≤ new.sets.first + length new.sets.words.items)) (sym numbers_so)
-          (All-weaker (λ n. n + old.sets.width ≤ old.sets.first + length old.sets.words.items) (λ n. n + new.sets.width ≤ new.sets.first + length new.sets.words.items)
+          (All-weaker (λ n. n + old.sets.width ≤ old.sets.first + length old.sets.words.items)
+          (λ n. n + new.sets.width ≤ new.sets.first + length new.sets.words.items)
           (λ n h. omega (arith, h, passed.width, passed.first so)) old.set_numbers sound.within);
     };
     long = ap length numbers_so;

@@ -8,7 +8,8 @@ use Rattle.flow_points.specs.declared.fact.Slot.TheVariants.{Temp, Given, Answer
 use Rattle.flow_points.specs.declared.fact.Value.{Value}
 use Rattle.flow_points.specs.declared.fact.Value.TheVariants.{Arg, Const, Any}
 use Rattle.fact_rows.specs.declared.value.TheConstants.{ANY_NUMBER}
-use Rattle.fact_rows.specs.Values.{IsAwaited, IsNumbered, HasNumber, awaited_number, value_number, number_in, numbered_value, value_in, numbers_of}
+use Rattle.fact_rows.specs.Values.{IsAwaited, IsNumbered, HasNumber, awaited_number, value_number}
+use Rattle.fact_rows.specs.Values.{number_in, numbered_value, value_in, numbers_of}
 
 abbrev past_args : ℕ → Value
 past_args n = (if nat_lt n ANY_NUMBER then Const (n - MOST_VALUES) else Any)
@@ -17,10 +18,12 @@ pub arg_is : (n : ℕ) → n < MOST_VALUES → numbered_value n ≡ Arg n
 arg_is n lt = cond-true (nat_lt n MOST_VALUES) (Arg n) (past_args n) (lt-ltb n MOST_VALUES lt)
 
 pub const_is : (n : ℕ) → MOST_VALUES ≤ n → n < ANY_NUMBER → numbered_value n ≡ Const (n - MOST_VALUES)
-const_is n le lt = cond-false (nat_lt n MOST_VALUES) (Arg n) (past_args n) (le-ltb n MOST_VALUES le) ∙ cond-true (nat_lt n ANY_NUMBER) (Const (n - MOST_VALUES)) Any (lt-ltb n ANY_NUMBER lt)
+const_is n le lt = cond-false (nat_lt n MOST_VALUES) (Arg n) (past_args n) (le-ltb n MOST_VALUES le)
+    ∙ cond-true (nat_lt n ANY_NUMBER) (Const (n - MOST_VALUES)) Any (lt-ltb n ANY_NUMBER lt)
 
 pub any_is : (n : ℕ) → ANY_NUMBER ≤ n → numbered_value n ≡ Any
-any_is n le = cond-false (nat_lt n MOST_VALUES) (Arg n) (past_args n) (le-ltb n MOST_VALUES (omega arith)) ∙ cond-false (nat_lt n ANY_NUMBER) (Const (n - MOST_VALUES)) Any (le-ltb n ANY_NUMBER le)
+any_is n le = cond-false (nat_lt n MOST_VALUES) (Arg n) (past_args n) (le-ltb n MOST_VALUES (omega arith))
+    ∙ cond-false (nat_lt n ANY_NUMBER) (Const (n - MOST_VALUES)) Any (le-ltb n ANY_NUMBER le)
 
 numbered_back : (v : Value) → IsNumbered v → numbered_value (value_number v) ≡ v
 numbered_back (Arg k) lt = arg_is k lt

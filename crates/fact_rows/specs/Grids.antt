@@ -1,5 +1,6 @@
 -- What changes in the planes of all slots.
-use Rattle.std.specs.Prelude.{◌≡◌, ◌⊎◌, ◌↔◌, ℕ, ◌+◌, ◌<◌, Bool, List, [], length, Option, Some, None, IsTrue, slice_index_or, slice_set}
+use Rattle.std.specs.Prelude.{◌≡◌, ◌⊎◌, ◌↔◌, ℕ, ◌+◌, ◌<◌, Bool, List, [], length, Option, Some}
+use Rattle.std.specs.Prelude.{None, IsTrue, slice_index_or, slice_set}
 use Rattle.std.specs.Bool.{MatchBool}
 use Rattle.std.specs.List.{All, Contains}
 use Rattle.fact_rows.specs.declared.place.Counts.{Counts}
@@ -33,21 +34,26 @@ pub record IsBlank (slots : List Counts) (m : Marks) : Type 0 where
   pub awaits : All (λ ns. ns ≡ []) m.awaits
 
 -- a number more in one plane of a row, if it was not there
-pub record IsSetAt (old : List (List ℕ)) (i n : ℕ) (added : Bool) (new : List (List ℕ)) : Type 0 where
+pub record IsSetAt (old : List (List ℕ)) (i n : ℕ) (added : Bool) (new : List (List ℕ)) : Type
+    0 where
   pub within : i < length old
   pub list : List ℕ
   pub is : new ≡ slice_set old i list
   pub numbers : AreNumbers (λ m. (m ≡ n) ⊎ Contains (slice_index_or old i []) m) list
   pub fresh : IsTrue added ↔ (Contains (slice_index_or old i []) n → ⊥)
-  pub counted : MatchBool added (length list ≡ length (slice_index_or old i []) + 1) (list ≡ slice_index_or old i [])
+  pub counted : MatchBool added (length list ≡ length (slice_index_or old i []) + 1)
+      (list ≡ slice_index_or old i [])
 
 -- all numbers of one plane of a row come to another one
-pub record IsJoinedAt (old : List (List ℕ)) (i j : ℕ) (grown : Bool) (new : List (List ℕ)) : Type 0 where
+pub record IsJoinedAt (old : List (List ℕ)) (i j : ℕ) (grown : Bool) (new : List (List ℕ)) : Type
+    0 where
   pub within : j < length old
   pub list : List ℕ
   pub is : new ≡ slice_set old j list
-  pub numbers : AreNumbers (λ m. Contains (slice_index_or old i []) m ⊎ Contains (slice_index_or old j []) m) list
-  pub counted : MatchBool grown (length (slice_index_or old j []) < length list) (list ≡ slice_index_or old j [])
+  pub numbers : AreNumbers (λ m. Contains (slice_index_or old i []) m
+      ⊎ Contains (slice_index_or old j []) m) list
+  pub counted : MatchBool grown (length (slice_index_or old j []) < length list)
+      (list ≡ slice_index_or old j [])
 
 -- a number more at a spot, if it was not there
 pub record SetsPlane (old : Marks) (n : ℕ) (added : Bool) (i : ℕ) (new : Marks) : Type 0 where

@@ -19,7 +19,8 @@ pub record BitRows : Type 0 where
   pub entry : ℕ
   pub marks : Marks
 
--- the rows know the fact: it is of their entry, and the number of its value is in the plane of its slot and point
+-- the rows know the fact: it is of their entry, and the number of its value is in the plane of its
+-- slot and point
 pub record Knows (k : BitRows) (f : Fact) : Type 0 where
   pub entry : f.entry ≡ k.entry
   pub value : Contains (map (value_in f.slot) (numbers_at k.marks f.point f.slot)) f.value
@@ -28,7 +29,8 @@ pub record Knows (k : BitRows) (f : Fact) : Type 0 where
 abbrev pub KnowsAt : BitRows → ℕ → Fact → Type 0
 KnowsAt k p f = (f.point ≡ p) × Knows k f
 
--- a fact has a place in the rows: its slot stands before its point, and its value has a number there
+-- a fact has a place in the rows: its slot stands before its point, and its value has a number
+-- there
 pub record Fits (slots : List Counts) (f : Fact) : Type 0 where
   pub counts : Counts
   pub there : slice_get slots f.point ≡ Some counts
@@ -61,7 +63,8 @@ pub record AddsFact (f : Fact) (old new : BitRows) : Type 0 where
 pub record Joins (from to : Key) (old new : BitRows) : Type 0 where
   pub entry : new.entry ≡ old.entry
   pub slots : new.marks.slots ≡ old.marks.slots
-  pub knows : (g : Fact) → Knows new g ↔ (((g.point ≡ to.point) × (g.slot ≡ to.slot) × Knows old (fact g.entry from.point from.slot g.value)) ⊎ Knows old g)
+  pub knows : (g : Fact) → Knows new g ↔ (((g.point ≡ to.point) × (g.slot ≡ to.slot)
+      × Knows old (fact g.entry from.point from.slot g.value)) ⊎ Knows old g)
 
 -- how many facts are not known
 unfoldable pub missing : BitRows → ℕ

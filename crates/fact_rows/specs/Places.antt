@@ -1,6 +1,8 @@
--- Where the numbers of a slot are kept: one row of planes for all points, one after the other, with a plane for each slot
--- before a point but AWAITS; and beside it the planes of AWAITS, one for each point.
-use Rattle.std.specs.Prelude.{◌≡◌, ℕ, zero, suc, ◌+◌, ◌<◌, nat_lt, List, [], ◌∷◌, Option, Some, None, slice_get, slice_index_or, if◌then◌else◌}
+-- Where the numbers of a slot are kept: one row of planes for all points, one after the other, with
+-- a plane for each slot before a point but AWAITS; and beside it the planes of AWAITS, one for each
+-- point.
+use Rattle.std.specs.Prelude.{◌≡◌, ℕ, zero, suc, ◌+◌, ◌<◌, nat_lt, List, [], ◌∷◌, Option, Some}
+use Rattle.std.specs.Prelude.{None, slice_get, slice_index_or, if◌then◌else◌}
 use Rattle.flow_points.specs.declared.fact.Slot.{Slot}
 use Rattle.flow_points.specs.declared.fact.Slot.TheVariants.{Temp, Given, Answered, Depth, Awaits}
 use Rattle.flow_table.specs.declared.row.Row.{Row}
@@ -56,7 +58,8 @@ pub record HoldsSlot (slots : List Counts) (spot : Spot) : Type 0 where
   pub slot : Slot
   pub is : spot_of slots point slot ≡ Some spot
 
--- the numbers of all spots: how many slots stand before each point, the row of planes, and the planes of AWAITS
+-- the numbers of all spots: how many slots stand before each point, the row of planes, and the
+-- planes of AWAITS
 pub record Marks : Type 0 where
   pub slots : List Counts
   pub planes : List (List ℕ)

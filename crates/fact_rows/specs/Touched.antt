@@ -1,5 +1,6 @@
 -- The points before which slots have numbers, and the facts of slots.
-use Rattle.std.specs.Prelude.{◌≡◌, ◌⊎◌, ℕ, ◌+◌, ◌<◌, List, [], ◌∷◌, ◌++◌, map, Option, Some, None, slice_get}
+use Rattle.std.specs.Prelude.{◌≡◌, ◌⊎◌, ℕ, ◌+◌, ◌<◌, List, [], ◌∷◌, ◌++◌, map, Option, Some, None}
+use Rattle.std.specs.Prelude.{slice_get}
 use Rattle.std.specs.declared.cmp.Ordering.{Ordering}
 use Rattle.std.specs.List.{All, Contains, range_with_len}
 use Rattle.std.specs.List.Sorted.{IsStrictlySortedBy}
@@ -47,11 +48,13 @@ numbered_slot Answered n = slot.Answered n
 
 -- so many numbered slots before a point
 abbrev pub numbered_keys : ℕ → Numbered → ℕ → List Key
-numbered_keys p numbered count = map (λ n. key p (numbered_slot numbered n)) (range_with_len 0 count)
+numbered_keys p numbered count =
+    map (λ n. key p (numbered_slot numbered n)) (range_with_len 0 count)
 
 -- all slots before a point that has so many, in order
 abbrev pub keys_at : ℕ → Counts → List Key
-keys_at p c = numbered_keys p Temp c.temps ++ (numbered_keys p Given c.given ++ (numbered_keys p Answered c.answered ++ (key p slot.Depth ∷ key p slot.Awaits ∷ [])))
+keys_at p c = numbered_keys p Temp c.temps ++ (numbered_keys p Given c.given
+    ++ (numbered_keys p Answered c.answered ++ (key p slot.Depth ∷ key p slot.Awaits ∷ [])))
 
 abbrev pub keys_if : ℕ → Option Counts → List Key
 keys_if p None = []

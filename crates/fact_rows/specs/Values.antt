@@ -1,5 +1,5 @@
--- The number of a value in its plane. In the plane of AWAITS a number is itself; in any other one the values that a job
--- started with come first, then the small numbers, and last any number.
+-- The number of a value in its plane. In the plane of AWAITS a number is itself; in any other one
+-- the values that a job started with come first, then the small numbers, and last any number.
 use Rattle.std.specs.Prelude.{ℕ, ◌+◌, ◌-◌, ◌<◌, nat_lt, Bool, true, false, if◌then◌else◌}
 use Rattle.plex_limits.specs.declared.limits.TheConstants.{MOST_VALUES}
 use Rattle.flow_points.specs.declared.limits.TheConstants.{SMALL_NUMBERS}
@@ -52,7 +52,8 @@ abbrev pub number_in : Slot → Value → ℕ
 number_in s v = (if is_awaits s then awaited_number v else value_number v)
 
 abbrev pub numbered_value : ℕ → Value
-numbered_value n = (if nat_lt n MOST_VALUES then Arg n else (if nat_lt n ANY_NUMBER then Const (n - MOST_VALUES) else Any))
+numbered_value n = (if nat_lt n MOST_VALUES then Arg n
+    else (if nat_lt n ANY_NUMBER then Const (n - MOST_VALUES) else Any))
 
 -- the value of a number
 abbrev pub value_in : Slot → ℕ → Value

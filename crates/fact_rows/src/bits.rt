@@ -1,5 +1,6 @@
 // Numbers as bits of words, 64 to a word.
-ghost use Rattle.std.specs.Prelude.{◌≡◌, ◌⊎◌, ◌↔◌, ◌+◌, ◌*◌, ◌<◌, ◌≤◌, ◌^◌, ◌++◌, ◌∷◌, ◌==◌, [], length, take, drop, OnOk, IsTrue};
+ghost use Rattle.std.specs.Prelude.{◌≡◌, ◌⊎◌, ◌↔◌, ◌+◌, ◌*◌, ◌<◌, ◌≤◌, ◌^◌, ◌++◌, ◌∷◌, ◌==◌, []};
+ghost use Rattle.std.specs.Prelude.{length, take, drop, OnOk, IsTrue};
 ghost use Rattle.std.specs.Bool.{MatchBool};
 ghost use Rattle.std.specs.List.{Contains, list_all};
 ghost use Rattle.std.specs.Int.{bit_at};
@@ -25,7 +26,8 @@ pub(crate) fn set_bit(words: &mut [u64], i: u32) -> bool
     word & bit == 0
 }
 
-/// Sets all bits of other words, of which there are as many; true exactly where one of them was not set.
+/// Sets all bits of other words, of which there are as many; true exactly where one of them was not
+/// set.
 pub(crate) fn join(words: &mut [u64], others: &[u64]) -> bool
     requires { length others.now ≡ length words.old }
     ensures numbers { AreNumbers

@@ -1,6 +1,8 @@
 // A set of numbers for each slot before each point.
-ghost use Rattle.std.specs.Prelude.{◌≡◌, ◌↔◌, ◌+◌, ◌<◌, [], map, slice_get, IfOk, MatchOption, OnErr, IsTrue, Some};
-ghost use Rattle.fact_rows.specs.Places.{HoldsSlot, at_spot, counts_of as counts_of_row, numbers_at, spot_of as spot_of_slots};
+ghost use Rattle.std.specs.Prelude.{◌≡◌, ◌↔◌, ◌+◌, ◌<◌, [], map, slice_get, IfOk, MatchOption};
+ghost use Rattle.std.specs.Prelude.{OnErr, IsTrue, Some};
+ghost use Rattle.fact_rows.specs.Places.{HoldsSlot, at_spot, counts_of as counts_of_row};
+ghost use Rattle.fact_rows.specs.Places.{numbers_at, spot_of as spot_of_slots};
 ghost use Rattle.fact_rows.specs.Values.{room_at};
 ghost use Rattle.fact_rows.specs.Numbers.{AreWordsOf};
 ghost use Rattle.fact_rows.specs.Grids.{IsBlank, JoinsAt, SetsAt};
@@ -119,8 +121,8 @@ impl Grid {
         }
     }
 
-    /// Adds a number to those at the spot of a slot; true exactly where it was not among them. Where memory is refused, all stays as
-    /// it was.
+    /// Adds a number to those at the spot of a slot; true exactly where it was not among them.
+    /// Where memory is refused, all stays as it was.
     pub(crate) fn set(&mut self, spot: Spot, number: u32) -> Result<bool, Memory>
         requires there { HoldsSlot self.old.slots spot }
         requires number { number < room_at spot }
@@ -134,8 +136,9 @@ impl Grid {
         }
     }
 
-    /// Adds to the numbers at the spot of a slot all those at another one, which must have as much room; true exactly where one of
-    /// them was not there. Where memory is refused, all stays as it was.
+    /// Adds to the numbers at the spot of a slot all those at another one, which must have as much
+    /// room; true exactly where one of them was not there. Where memory is refused, all stays as it
+    /// was.
     pub(crate) fn join(&mut self, from: Spot, to: Spot) -> Result<bool, Memory>
         requires from { HoldsSlot self.old.slots from }
         requires to { HoldsSlot self.old.slots to }

@@ -3,8 +3,8 @@ use plex_num::Memory;
 use std::alloc::Global;
 use std::collections::HashMap;
 
-/// For each mark the number of the last set that had it. A hint may be wrong: what it leads to is looked at, and a wrong hint
-/// costs time and room alone.
+/// For each mark the number of the last set that had it. A hint may be wrong: what it leads to is
+/// looked at, and a wrong hint costs time and room alone.
 pub(crate) struct Hints {
     numbers: HashMap<u64, u32>,
 }

@@ -1,5 +1,6 @@
 // Numbers that mostly are small.
-ghost use Rattle.std.specs.Prelude.{◌≡◌, ◌<◌, ◌^◌, [], length, replicate, slice_index_or, slice_set, IfOk, IsTrue, OnErr, OnOk};
+ghost use Rattle.std.specs.Prelude.{◌≡◌, ◌<◌, ◌^◌, [], length, replicate, slice_index_or};
+ghost use Rattle.std.specs.Prelude.{slice_set, IfOk, IsTrue, OnErr, OnOk};
 ghost use Rattle.fact_rows.specs.Narrow.{told};
 
 use plex_num::Memory;
@@ -9,8 +10,8 @@ use std::marker::Model;
 /// The largest number that two bytes can tell.
 const MOST_NARROW: u32 = 65_535;
 
-/// A row of numbers of 32 bits, in two bytes each as long as none is above 65,535; from then on all stand in four bytes each.
-/// Contracts see it as the list of its numbers.
+/// A row of numbers of 32 bits, in two bytes each as long as none is above 65,535; from then on all
+/// stand in four bytes each. Contracts see it as the list of its numbers.
 #[derive(Drop)]
 pub(crate) struct NumberRow {
     narrow: Vec<u16>,
@@ -62,7 +63,8 @@ impl NumberRow {
         self.narrow[i] as u32
     }
 
-    /// Puts a number in the place of that at `i`, counted from 0. Where memory is refused, all stay as they were.
+    /// Puts a number in the place of that at `i`, counted from 0. Where memory is refused, all stay
+    /// as they were.
     #[tactic(auto, using(crate::proofs::Narrowing::told_narrow, crate::proofs::Narrowing::narrow_put, crate::proofs::Narrowing::wide_put))]
     pub(crate) fn put(&mut self, i: usize, number: u32) -> Result<(), Memory>
         requires { i < length self.old }
@@ -106,7 +108,8 @@ fn stays_narrow(wide: &[u32], number: u32) -> bool
     wide.is_empty() && number <= MOST_NARROW
 }
 
-/// Tells all numbers in four bytes each, if that was not done. Where memory is refused, nothing is told anew.
+/// Tells all numbers in four bytes each, if that was not done. Where memory is refused, nothing is
+/// told anew.
 #[tactic(auto, using(crate::proofs::Narrowing::told_wide))]
 fn widen(narrow: &[u16], wide: &mut Vec<u32>) -> Result<(), Memory>
     ensures ok { OnOk result (wide.new.items ≡ told narrow.now wide.old.items) }

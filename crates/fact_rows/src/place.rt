@@ -1,6 +1,7 @@
 // Where the numbers of a slot are kept.
 ghost use Rattle.std.specs.Prelude.{◌≡◌, ◌+◌, ◌<◌, ◌^◌};
-ghost use Rattle.fact_rows.specs.Places.{size_of, spot_below as spot_below_of, spot_in as spot_in_of};
+ghost use Rattle.fact_rows.specs.Places.{size_of, spot_below as spot_below_of};
+ghost use Rattle.fact_rows.specs.Places.{spot_in as spot_in_of};
 
 use flow_points::Slot;
 

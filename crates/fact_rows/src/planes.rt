@@ -1,5 +1,6 @@
 // A row of sets of numbers, of which each set that was met is kept once.
-ghost use Rattle.std.specs.Prelude.{◌≡◌, ◌↔◌, ◌*◌, ◌<◌, ◌≤◌, ◌^◌, [], length, replicate, slice_index_or, IfOk, OnErr, OnOk, IsTrue, MatchOption};
+ghost use Rattle.std.specs.Prelude.{◌≡◌, ◌↔◌, ◌*◌, ◌<◌, ◌≤◌, ◌^◌, [], length, replicate};
+ghost use Rattle.std.specs.Prelude.{slice_index_or, IfOk, OnErr, OnOk, IsTrue, MatchOption};
 ghost use Rattle.std.specs.List.{All};
 ghost use Rattle.fact_rows.specs.Grids.{IsJoinedAt, IsSetAt};
 ghost use Rattle.fact_rows.specs.Spread.{AreWordsAt, IsAlike, IsSound, KeepsRow, row_of};
@@ -10,9 +11,10 @@ use crate::sets::Sets;
 use plex_num::Memory;
 use std::alloc::Global;
 
-/// A row of sets of numbers. Each takes two bytes, or four where very many sets are met: the number of its set among those that
-/// the row has met, each of which is kept once. One set of the row is laid out beside these, so that numbers can be added to it;
-/// what it has become is kept when another one is laid out.
+/// A row of sets of numbers. Each takes two bytes, or four where very many sets are met: the number
+/// of its set among those that the row has met, each of which is kept once. One set of the row is
+/// laid out beside these, so that numbers can be added to it; what it has become is kept when
+/// another one is laid out.
 #[derive(Drop)]
 pub(crate) struct Planes {
     /// The number of each set.
@@ -77,7 +79,8 @@ impl Planes {
         }
     }
 
-    /// Adds a number to a set of the row; true exactly where it was not there. Where memory is refused, all sets stay as they were.
+    /// Adds a number to a set of the row; true exactly where it was not there. Where memory is
+    /// refused, all sets stay as they were.
     pub(crate) fn set(&mut self, i: usize, number: u32) -> Result<bool, Memory>
         requires sound { IsSound self.old }
         requires place { i < length self.old.set_numbers }
@@ -91,8 +94,9 @@ impl Planes {
         Ok(set_bit(&mut self.laid, number))
     }
 
-    /// Adds to a set of the row all numbers of another one; true exactly where one of them was not there. Sets with the same number
-    /// are not looked at, and a set without one gets that of the other. Where memory is refused, all sets stay as they were.
+    /// Adds to a set of the row all numbers of another one; true exactly where one of them was not
+    /// there. Sets with the same number are not looked at, and a set without one gets that of the
+    /// other. Where memory is refused, all sets stay as they were.
     pub(crate) fn join(&mut self, from: usize, to: usize) -> Result<bool, Memory>
         requires sound { IsSound self.old }
         requires from { from < length self.old.set_numbers }
@@ -115,8 +119,9 @@ impl Planes {
         Ok(self.join_laid(from))
     }
 
-    /// Gives a set of the row that is none of those that are kept the number of another one, where none is laid out; true exactly where that one
-    /// has numbers. Where memory is refused, all sets stay as they were.
+    /// Gives a set of the row that is none of those that are kept the number of another one, where
+    /// none is laid out; true exactly where that one has numbers. Where memory is refused, all sets
+    /// stay as they were.
     #[tactic(auto, using(crate::proofs::Spreading::keeps_itself, crate::proofs::Spreading::keeps_same))]
     fn share(&mut self, from: usize, to: usize) -> Result<bool, Memory>
         requires sound { IsSound self.old }
@@ -137,7 +142,8 @@ impl Planes {
         Ok(true)
     }
 
-    /// Adds to the set that is laid out all numbers of another one; true exactly where one of them was not there.
+    /// Adds to the set that is laid out all numbers of another one; true exactly where one of them
+    /// was not there.
     #[tactic(auto, using(crate::proofs::Spreading::number_inside, crate::proofs::Spreading::keeps_itself))]
     fn join_laid(&mut self, from: usize) -> bool
         requires sound { IsSound self.old }
@@ -204,7 +210,8 @@ impl Planes {
         }
     }
 
-    /// Leaves all sets without numbers, in the time of the sets that were met, but for once in a very long while.
+    /// Leaves all sets without numbers, in the time of the sets that were met, but for once in a
+    /// very long while.
     #[tactic(auto, using(crate::proofs::Spreading::anew_keeps, crate::proofs::Spreading::anew_blank, crate::proofs::Spreading::passed_keeps, crate::proofs::Spreading::passed_blank))]
     pub(crate) fn clear(&mut self)
         requires { IsSound self.old }

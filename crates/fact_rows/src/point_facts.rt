@@ -2,7 +2,8 @@
 ghost use Rattle.std.specs.Prelude.{◌≡◌, ◌*◌, ◌+◌, ◌<◌, ◌≤◌, ◌^◌, ◌++◌, [], length, OnOk};
 ghost use Rattle.fact_rows.specs.Numbers.{bit_number, bits_of, numbers};
 ghost use Rattle.fact_rows.specs.Places.{numbers_at};
-ghost use Rattle.fact_rows.specs.Touched.{facts_at, facts_of, key as key_of, keys_at, keys_before, numbered_keys};
+ghost use Rattle.fact_rows.specs.Touched.{facts_at, facts_of, key as key_of, keys_at, keys_before};
+ghost use Rattle.fact_rows.specs.Touched.{numbered_keys};
 
 use crate::bits::{append, has_bit};
 use crate::grid::Grid;
@@ -136,8 +137,8 @@ fn push_words(entry: u32, key: Key, words: &[u64], facts: &mut Vec<Fact>) -> Res
     Ok(())
 }
 
-/// Appends those of the bits of a word that has one, the lowest of which has this number. No bit is looked at below the first that is set,
-/// nor above the last.
+/// Appends those of the bits of a word that has one, the lowest of which has this number. No bit is
+/// looked at below the first that is set, nor above the last.
 fn push_bits(
     entry: u32,
     key: Key,

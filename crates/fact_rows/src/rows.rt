@@ -1,5 +1,6 @@
 // The facts of one entry, in sets of numbers.
-ghost use Rattle.std.specs.Prelude.{◌≡◌, ◌↔◌, ◌+◌, ◌<◌, ◌++◌, ◌∷◌, [], map, true, IfOk, OnErr, OnOk, IsTrue};
+ghost use Rattle.std.specs.Prelude.{◌≡◌, ◌↔◌, ◌+◌, ◌<◌, ◌++◌, ◌∷◌, [], map, true, IfOk, OnErr};
+ghost use Rattle.std.specs.Prelude.{OnOk, IsTrue};
 ghost use Rattle.std.specs.Bool.{MatchBool};
 ghost use Rattle.std.specs.List.{Contains};
 ghost use Rattle.std.specs.List.Sorted.{IsStrictlySortedBy};
@@ -7,7 +8,8 @@ ghost use Rattle.flow_points.specs.declared.fact.Fact.{Fact as FactType};
 ghost use Rattle.flow_points.specs.Facts.{Reached, fact};
 ghost use Rattle.flow_table.specs.Giving.{AreValues};
 ghost use Rattle.fact_rows.specs.Places.{HoldsSlot};
-ghost use Rattle.fact_rows.specs.Known.{AddsFact, AreFacts, ArePointsOf, Fits, HasSpot, Joins, KnowNothing, Knows, KnowsAt, missing, slots_of};
+ghost use Rattle.fact_rows.specs.Known.{AddsFact, AreFacts, ArePointsOf, Fits, HasSpot, Joins};
+ghost use Rattle.fact_rows.specs.Known.{KnowNothing, Knows, KnowsAt, missing, slots_of};
 ghost use Rattle.fact_rows.specs.Values.{is_awaits};
 ghost use Rattle.fact_rows.specs.Numbers.{AreNumbers};
 ghost use Rattle.fact_rows.specs.Touched.{IsTouched, facts_of, keys_of};
@@ -23,9 +25,10 @@ use plex_num::{Memory, Seq};
 use std::alloc::Global;
 use std::marker::Model;
 
-/// The facts of one entry, as rows of sets: for each point of a table a set of numbers for each slot before it. They are made once
-/// for a table, and begun anew for each entry, in the time of what was added. A slot takes four bytes, and beside them each set
-/// that the entry has met stands once.
+/// The facts of one entry, as rows of sets: for each point of a table a set of numbers for each
+/// slot before it. They are made once for a table, and begun anew for each entry, in the time of
+/// what was added. A slot takes four bytes, and beside them each set that the entry has met stands
+/// once.
 pub struct FactRows {
     entry: u32,
     grid: Grid,
@@ -75,8 +78,9 @@ impl FactRows {
         self.entry = entry;
     }
 
-    /// Adds a fact of the entry, whose slot must stand before its point, and whose value must have a number there; true exactly
-    /// where it was not known. Where memory is refused, the rows stay as they were.
+    /// Adds a fact of the entry, whose slot must stand before its point, and whose value must have
+    /// a number there; true exactly where it was not known. Where memory is refused, the rows stay
+    /// as they were.
     pub fn add(&mut self, fact: Fact) -> Result<bool, Memory>
         requires entry { fact.entry ≡ self.old.entry }
         requires place { Fits self.old.marks.slots fact }
@@ -94,8 +98,9 @@ impl FactRows {
         Ok(added)
     }
 
-    /// Adds to the values of a slot, which must stand before its point, all those of another one; AWAITS must be both or neither.
-    /// True exactly where one of them was not known. Where memory is refused, the rows stay as they were.
+    /// Adds to the values of a slot, which must stand before its point, all those of another one;
+    /// AWAITS must be both or neither. True exactly where one of them was not known. Where memory
+    /// is refused, the rows stay as they were.
     pub fn join(&mut self, from: Key, to: Key) -> Result<bool, Memory>
         requires to { HasSpot self.old.marks.slots to.point to.slot }
         requires alike { is_awaits from.slot ≡ is_awaits to.slot }
@@ -125,8 +130,8 @@ impl FactRows {
         listed(alloc, self.entry, &self.grid, &points)
     }
 
-    /// The points before which something is known, in order. There may be others among them, if something was to be added there and
-    /// was not.
+    /// The points before which something is known, in order. There may be others among them, if
+    /// something was to be added there and was not.
     pub fn points(&self, alloc: Global) -> Result<Vec<u32>, Memory>
         ensures { IfOk result (λ points. ArePointsOf (Knows self.now) points.items) }
     {
@@ -134,7 +139,8 @@ impl FactRows {
         Ok(points)
     }
 
-    /// Puts the facts that are known before a point, in their order, in the place of those of a list.
+    /// Puts the facts that are known before a point, in their order, in the place of those of a
+    /// list.
     pub fn list_at(&self, point: u32, list: &mut PointFacts) -> Result<(), Memory>
         ensures { OnOk result (AreFacts (KnowsAt self.now point) list.new.facts.items) }
     {
@@ -170,7 +176,8 @@ impl KnownFacts for FactRows {
     }
 }
 
-/// Notes a point, unless it was noted last, or there are numbers at this spot of a slot before it, so that it was noted for these.
+/// Notes a point, unless it was noted last, or there are numbers at this spot of a slot before it,
+/// so that it was noted for these.
 #[tactic(auto, using(crate::proofs::Holding::not_blank, crate::proofs::Holding::noted_last, crate::proofs::Holding::noted_more))]
 #[inline(always)]
 fn touch(grid: &Grid, spot: Spot, point: u32, touched: &mut Vec<u32>) -> Result<(), Memory>

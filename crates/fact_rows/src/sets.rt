@@ -1,5 +1,6 @@
 // The sets of numbers that were met, each kept once.
-ghost use Rattle.std.specs.Prelude.{◌≡◌, ◌+◌, ◌-◌, ◌<◌, ◌≤◌, [], length, IfOk, IfSome, IsTrue, MatchOption};
+ghost use Rattle.std.specs.Prelude.{◌≡◌, ◌+◌, ◌-◌, ◌<◌, ◌≤◌, [], length, IfOk, IfSome, IsTrue};
+ghost use Rattle.std.specs.Prelude.{MatchOption};
 ghost use Rattle.fact_rows.specs.Spread.{HasSet, IsLonger, IsPassed, IsWordsOf};
 
 use crate::bits::{are_same, from, until};
@@ -7,11 +8,12 @@ use crate::hints::{Hints, mark_of};
 use plex_num::Memory;
 use std::alloc::Global;
 
-/// Past so many words, counted over all that was forgotten, the numbers of sets begin anew, so that they stay small.
+/// Past so many words, counted over all that was forgotten, the numbers of sets begin anew, so that
+/// they stay small.
 const MOST_PASSED: usize = 32_768;
 
-/// Sets of numbers, each as bits of `width` words, in one list of words. The number of a set is the place of its first word, counted
-/// from `first`; a number below that is of no set.
+/// Sets of numbers, each as bits of `width` words, in one list of words. The number of a set is the
+/// place of its first word, counted from `first`; a number below that is of no set.
 #[derive(Drop)]
 pub(crate) struct Sets {
     pub words: Vec<u64>,
@@ -51,8 +53,8 @@ impl Sets {
         Some(until(from(&self.words, start), self.width as usize))
     }
 
-    /// The number of a set, which is kept if it was not met before. It may be that of a set that is said to be likely. Where memory
-    /// is refused, all numbers stay those of their sets.
+    /// The number of a set, which is kept if it was not met before. It may be that of a set that is
+    /// said to be likely. Where memory is refused, all numbers stay those of their sets.
     #[tactic(auto, using(crate::proofs::Spreading::as_long))]
     pub(crate) fn number_of(&mut self, set: &[u64], likely: u32) -> Result<u32, Memory>
         requires { length set.now ≡ self.old.width }
@@ -132,7 +134,8 @@ impl Sets {
         }
     }
 
-    /// Forgets all sets, so that the numbers that they had are of none; false where numbers are to begin anew before that.
+    /// Forgets all sets, so that the numbers that they had are of none; false where numbers are to
+    /// begin anew before that.
     #[tactic(auto, using(crate::proofs::Spreading::passed_on, crate::proofs::Spreading::not_passed))]
     pub(crate) fn pass(&mut self) -> bool
         ensures { IsPassed self.old self.new result }

@@ -1,6 +1,10 @@
 // The number of a value in its plane.
 ghost use Rattle.std.specs.Prelude.{◌≡◌, ◌<◌};
-ghost use Rattle.fact_rows.specs.Values.{HasNumber, IsAwaited, IsNumbered, awaited_number as awaited_number_of, is_awaits as is_awaits_of, number_in as number_in_of, numbered_value as numbered_value_of, numbers_of, value_in as value_in_of, value_number as value_number_of};
+ghost use Rattle.fact_rows.specs.Values.{HasNumber, IsAwaited, IsNumbered};
+ghost use Rattle.fact_rows.specs.Values.{awaited_number as awaited_number_of};
+ghost use Rattle.fact_rows.specs.Values.{is_awaits as is_awaits_of, number_in as number_in_of};
+ghost use Rattle.fact_rows.specs.Values.{numbered_value as numbered_value_of, numbers_of};
+ghost use Rattle.fact_rows.specs.Values.{value_in as value_in_of, value_number as value_number_of};
 
 use flow_points::{SMALL_NUMBERS, Slot, Value};
 use plex_limits::MOST_VALUES;
@@ -8,7 +12,8 @@ use plex_limits::MOST_VALUES;
 // The values that a job started with come before the small numbers.
 const ARGS: u32 = MOST_VALUES as u32;
 
-/// The number of any number in a plane, which is the last one: values that a job started with and small numbers come before it.
+/// The number of any number in a plane, which is the last one: values that a job started with and
+/// small numbers come before it.
 pub const ANY_NUMBER: u32 = ARGS + SMALL_NUMBERS;
 /// How many numbers a plane of AWAITS has.
 pub const AWAITED_NUMBERS: u32 = 1_024;

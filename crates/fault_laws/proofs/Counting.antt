@@ -1,6 +1,7 @@
--- The points that a job has counted. Where none leads back to itself, each was counted at most once as a statement and at most
--- once as a turn, and each signal that was sent has a SEND of its own.
-use Rattle.std.proofs.Common.{◌≡◌, ◌⊎◌, inl, inr, ⊎_elim, ℕ, suc, ◌+◌, ◌<◌, ◌≤◌, Bool, true, false, List, [], ◌∷◌, length, refl, sym, ap, ◌∙◌, subst, arith}
+-- The points that a job has counted. Where none leads back to itself, each was counted at most once
+-- as a statement and at most once as a turn, and each signal that was sent has a SEND of its own.
+use Rattle.std.proofs.Common.{◌≡◌, ◌⊎◌, inl, inr, ⊎_elim, ℕ, suc, ◌+◌, ◌<◌, ◌≤◌, Bool, true, false}
+use Rattle.std.proofs.Common.{List, [], ◌∷◌, length, refl, sym, ap, ◌∙◌, subst, arith}
 use Rattle.std.proofs.lemmas.Bool.{eqb-false, ltb-false}
 use Rattle.std.proofs.lemmas.Map.Keys.{IsDistinct-cons}
 use Rattle.std.proofs.lemmas.Map.Steps.{length-le_from_distinct_below}
@@ -29,7 +30,9 @@ apart : (p : ℕ) (ps : List ℕ) → list_any (nat_eq p) ps ≡ false → AllBy
 apart p [] is = tt
 apart p (q ∷ ps) is = by (nat_eq p q) refl is (apart p ps)
   where
-    by : (b : Bool) → nat_eq p q ≡ b → (b || list_any (nat_eq p) ps) ≡ false → (list_any (nat_eq p) ps ≡ false → AllByRecursion (λ q. nat_eq p q ≡ false) ps) → AllByRecursion (λ q. nat_eq p q ≡ false) (q ∷ ps)
+    by : (b : Bool) → nat_eq p q ≡ b → (b || list_any (nat_eq p) ps) ≡ false
+        → (list_any (nat_eq p) ps ≡ false → AllByRecursion (λ q. nat_eq p q ≡ false) ps)
+        → AllByRecursion (λ q. nat_eq p q ≡ false) (q ∷ ps)
     by true same none more = absurd (let clash : true ≡ false = none in cc)
     by false same none more = (same, more none)
 
@@ -57,7 +60,8 @@ module _ (x : Exchange) where
   no_points : (Q : ℕ → Type 0) → Points x Q []
   no_points Q = record { once = none_once; below = λ p at. absurd (none_in p at); each = λ p at. absurd (none_in p at) }
 
-  one_more : (Q : ℕ → Type 0) (p : ℕ) (points : List ℕ) → p < length x.points → list_any (nat_eq p) points ≡ false → Q p → Points x Q points → Points x Q (p ∷ points)
+  one_more : (Q : ℕ → Type 0) (p : ℕ) (points : List ℕ) → p < length x.points → list_any (nat_eq p) points ≡ false → Q p
+      → Points x Q points → Points x Q (p ∷ points)
   one_more Q p points lt new here h = record {
     once = IsDistinct-cons nat_eq p points (apart p points new) h.once;
     below = λ q at. ⊎_elim (λ (same : p ≡ q). subst (λ n. n < length x.points) same lt) (h.below q) (first_or_later p q points at);
@@ -89,18 +93,23 @@ module _ (x : Exchange) (P : Facts) (e : ℕ) where
   posted_same : (p : ℕ) (statements : List ℕ) (n m : ℕ) → m ≡ n → Posted x P e statements n → Posted x P e (p ∷ statements) m
   posted_same p statements n m same h = record { posts = h.posts; posted = wider p statements h.posts h.posted; sent = same ∙ h.sent }
 
-  new_post : (p : ℕ) (statements : List ℕ) (n : ℕ) → list_any (nat_eq p) statements ≡ false → (h : Posted x P e statements n) → list_any (nat_eq p) h.posts ≡ false
+  new_post : (p : ℕ) (statements : List ℕ) (n : ℕ) → list_any (nat_eq p) statements ≡ false
+      → (h : Posted x P e statements n) → list_any (nat_eq p) h.posts ≡ false
   new_post p statements n new h = absent p h.posts (λ at. not_in p statements new (h.posted.each p at).1)
 
-  posted_more : (p : ℕ) (statements : List ℕ) (n m : ℕ) → p < length x.points → list_any (nat_eq p) statements ≡ false → PostsAt x P e p → m ≡ suc n → Posted x P e statements n → Posted x P e (p ∷ statements) m
+  posted_more : (p : ℕ) (statements : List ℕ) (n m : ℕ) → p < length x.points → list_any (nat_eq p) statements ≡ false
+      → PostsAt x P e p → m ≡ suc n → Posted x P e statements n → Posted x P e (p ∷ statements) m
   posted_more p statements n m lt new here more h = record {
     posts = p ∷ h.posts;
-    posted = one_more x (PostsOf (p ∷ statements)) p h.posts lt (new_post p statements n new h) (here, first_is p statements) (wider p statements h.posts h.posted);
+    posted = one_more x (PostsOf (p ∷ statements)) p h.posts lt (new_post p statements n new h)
+        (here, first_is p statements) (wider p statements h.posts h.posted);
     sent = more ∙ ap suc h.sent;
   }
 
   -- one more SEND than a job may make
-  pub too_many_sends : (p : ℕ) (statements : List ℕ) (n : ℕ) → p < length x.points → list_any (nat_eq p) statements ≡ false → PostsAt x P e p → nat_lt n MOST_SENT ≡ false → Posted x P e statements n → TooManySends x P e
+  pub too_many_sends : (p : ℕ) (statements : List ℕ) (n : ℕ) → p < length x.points
+      → list_any (nat_eq p) statements ≡ false → PostsAt x P e p → nat_lt n MOST_SENT ≡ false
+      → Posted x P e statements n → TooManySends x P e
   too_many_sends p statements n lt new here full h =
       let all = posted_more p statements n (suc n) lt new here refl h in
       record {
@@ -141,7 +150,8 @@ module _ (x : Exchange) (P : Facts) (e : ℕ) where
     sends = record { posts = []; posted = no_points x _; sent = ap length unsent };
   }
 
-  stated_new : (c : Config) (deed : Deed) (h : Passed x P e c deed) → ((p : ℕ) → IsTurnAt p deed → ⊥) → GoesRound x P e ⊎ (list_any (nat_eq (deed_point deed)) h.statements ≡ false)
+  stated_new : (c : Config) (deed : Deed) (h : Passed x P e c deed) → ((p : ℕ) → IsTurnAt p deed → ⊥)
+      → GoesRound x P e ⊎ (list_any (nat_eq (deed_point deed)) h.statements ≡ false)
   stated_new c deed h no_turn = by (list_any (nat_eq (deed_point deed)) h.statements) refl
     where
       round : Walk x P e (deed_point deed) (deed_point deed) ⊎ IsTurnAt (deed_point deed) deed → GoesRound x P e
@@ -170,7 +180,8 @@ module _ (x : Exchange) (P : Facts) (e : ℕ) where
   walk_after q deed next walk (inr turn) = subst (Walk x P e q) (turn_point (deed_point deed) next turn.1) walk
 
   -- a statement, or the ENTER of an activation
-  stated_on : (c d : Config) (deed next : Deed) → ((p : ℕ) → IsTurnAt p deed → ⊥) → deed_point deed < length x.points → (h : Passed x P e c deed) → list_any (nat_eq (deed_point deed)) h.statements ≡ false → Follows x P e deed next
+  stated_on : (c d : Config) (deed next : Deed) → ((p : ℕ) → IsTurnAt p deed → ⊥) → deed_point deed < length x.points
+      → (h : Passed x P e c deed) → list_any (nat_eq (deed_point deed)) h.statements ≡ false → Follows x P e deed next
       → d.own.count ≡ c.own.count + 1 → (PostsBy x deed → PostsAt x P e (deed_point deed)) → SendsOne x deed c d → Passed x P e d next
   stated_on c d deed next no_turn lt h new follows one posts sends = record {
     statements = deed_point deed ∷ h.statements;
@@ -194,13 +205,17 @@ module _ (x : Exchange) (P : Facts) (e : ℕ) where
       after (inr more) = posted_more x P e (deed_point deed) h.statements (length c.own.sends) (length d.own.sends) lt new (posts more.0) more.1 h.sends
 
   -- a turn of a loop
-  turned_on : (c d : Config) (p temp this end : ℕ) (body : List Stmt) (next : Deed) → p < length x.points → (h : Passed x P e c (Turning p temp this end body)) → list_any (nat_eq p) h.turns ≡ false → Follows x P e (Turning p temp this end body) next
+  turned_on : (c d : Config) (p temp this end : ℕ) (body : List Stmt) (next : Deed) → p < length x.points
+      → (h : Passed x P e c (Turning p temp this end body)) → list_any (nat_eq p) h.turns ≡ false
+      → Follows x P e (Turning p temp this end body) next
       → d.own.count ≡ c.own.count + 1 → SendsOne x (Turning p temp this end body) c d → Passed x P e d next
   turned_on c d p temp this end body next lt h new follows one sends = record {
     statements = h.statements;
     turns = p ∷ h.turns;
     stated = points_weaker x _ _ h.statements from_before h.stated;
-    turned = one_more x _ p h.turns lt new (from_here follows) (points_weaker x _ _ h.turns (λ q walk. walk_after q (Turning p temp this end body) next walk follows) h.turned);
+    turned = one_more x _ p h.turns lt new (from_here follows)
+        (points_weaker x _ _ h.turns (λ q walk. walk_after q (Turning p temp this end body) next walk follows)
+        h.turned);
     many = (let before = h.many in omega (arith, one, before));
     sends = after sends;
   }
@@ -217,25 +232,30 @@ module _ (x : Exchange) (P : Facts) (e : ℕ) where
       after (inl same) = subst (Posted x P e h.statements) (sym same) h.sends
       after (inr more) = absurd more.0
 
-  pub passed_on : (c d : Config) (deed next : Deed) → deed_point deed < length x.points → (h : Passed x P e c deed) → IsNew h.statements h.turns deed → Follows x P e deed next → d.own.count ≡ c.own.count + 1
+  pub passed_on : (c d : Config) (deed next : Deed) → deed_point deed < length x.points → (h : Passed x P e c deed)
+      → IsNew h.statements h.turns deed → Follows x P e deed next → d.own.count ≡ c.own.count + 1
       → (PostsBy x deed → PostsAt x P e (deed_point deed)) → SendsOne x deed c d → Passed x P e d next
   passed_on c d (Doing p l) next lt h new follows one posts sends = stated_on c d (Doing p l) next (λ q turn. turn) lt h new follows one posts sends
   passed_on c d (Starting p l) next lt h new follows one posts sends = stated_on c d (Starting p l) next (λ q turn. turn) lt h new follows one posts sends
   passed_on c d (Turning p temp this end body) next lt h new follows one posts sends = turned_on c d p temp this end body next lt h new follows one sends
 
   -- so many points are fewer than the statements that a job may count
-  below_budget : (count statements turns points : ℕ) → count ≡ statements + turns → statements ≤ points → turns ≤ points → points ≤ MOST_STATEMENTS → count < budget
+  below_budget : (count statements turns points : ℕ) → count ≡ statements + turns → statements ≤ points → turns ≤ points
+      → points ≤ MOST_STATEMENTS → count < budget
   unfolding budget
   below_budget count statements turns points is few fewer most = omega arith
 
   pub budget_left : (c : Config) (deed : Deed) → IsExchange x → Passed x P e c deed → nat_lt c.own.count budget ≡ false → ⊥
   budget_left c deed kept h full =
-      let lt = below_budget c.own.count (length h.statements) (length h.turns) (length x.points) h.many (few_points x _ h.statements h.stated) (few_points x _ h.turns h.turned) kept.limited.statements in
+      let lt = below_budget c.own.count (length h.statements) (length h.turns) (length x.points) h.many
+      (few_points x _ h.statements h.stated) (few_points x _ h.turns h.turned) kept.limited.statements in
       let le = ltb-false c.own.count budget full in
       omega (arith, lt, le)
 
   -- a SEND that posts and was not counted before
-  pub one_too_many : (c : Config) (deed : Deed) (h : Passed x P e c deed) → IsNew h.statements h.turns deed → deed_point deed < length x.points → PostsAt x P e (deed_point deed) → PostsBy x deed → nat_lt (length c.own.sends) MOST_SENT ≡ false
+  pub one_too_many : (c : Config) (deed : Deed) (h : Passed x P e c deed) → IsNew h.statements h.turns deed
+      → deed_point deed < length x.points → PostsAt x P e (deed_point deed) → PostsBy x deed
+      → nat_lt (length c.own.sends) MOST_SENT ≡ false
       → TooManySends x P e
   one_too_many c (Doing p l) h new lt here posts full = too_many_sends x P e p h.statements (length c.own.sends) lt new here full h.sends
   one_too_many c (Starting p l) h new lt here posts full = absurd posts

@@ -20,7 +20,8 @@ effect_few x deed rest c d few _ = few
 leave_few : (x : Exchange) (deed : Deed) (rest : List Item) (c d : Config) → FewWait c → Leave x deed rest c d → FewWait d
 leave_few x deed rest c d few (Begins e b signal vs is) = few
 leave_few x deed rest c d few (Asks e b signal answer vs is room) = omega (arith, room)
-leave_few x deed rest c d few (Returns e p answer values vs k ks is given some same) = (let many : length c.callers ≡ length (k ∷ ks) = ap length some in omega (arith, few, many))
+leave_few x deed rest c d few (Returns e p answer values vs k ks is given some same) =
+    (let many : length c.callers ≡ length (k ∷ ks) = ap length some in omega (arith, few, many))
 leave_few x deed rest c d few (Ends e p l is end none) = few
 leave_few x deed rest c d few (Faults e f why) = few
 

@@ -1,5 +1,6 @@
 -- A job that faults may do so by the facts of its entry.
-use Rattle.std.proofs.Common.{◌≡◌, ◌⊎◌, inl, inr, ⊎_elim, ℕ, zero, suc, ◌+◌, false, List, [], ◌∷◌, length, Some, None, refl, sym, ap, ◌∙◌, subst, arith}
+use Rattle.std.proofs.Common.{◌≡◌, ◌⊎◌, inl, inr, ⊎_elim, ℕ, zero, suc, ◌+◌, false, List, [], ◌∷◌}
+use Rattle.std.proofs.Common.{length, Some, None, refl, sym, ap, ◌∙◌, subst, arith}
 use Rattle.std.proofs.lemmas.Bool.{ltb-false}
 use Rattle.std.proofs.lemmas.Option.{none-some}
 use Rattle.std.specs.Prelude.{nat_lt}
@@ -33,10 +34,13 @@ use Rattle.entry_summary.specs.Faults.{PostsAt, GoesRound, MayFault}
 use Rattle.fact_laws.specs.Covers.{Covered, KnownBefore, KnownNext}
 use Rattle.fact_laws.proofs.Covering.{last_step, steps_covered, steps_known}
 use Rattle.fact_laws.proofs.Standing.{at_place, deed_place}
-use Rattle.fault_laws.proofs.Counting.{Passed, IsNew, nothing_passed, is_new, passed_on, budget_left, one_too_many}
+use Rattle.fault_laws.proofs.Counting.{Passed, IsNew, nothing_passed, is_new, passed_on}
+use Rattle.fault_laws.proofs.Counting.{budget_left, one_too_many}
 use Rattle.fault_laws.proofs.Depths.{steps_few}
-use Rattle.fault_laws.proofs.Following.{Follows, IsPlain, counted_plain, goes_follows, leaves_follow}
-use Rattle.fault_laws.proofs.Moves.{PostsBy, SendsOne, Moves, Stays, Leaves, Stops, StepTo, CountsNone, CountsFull, Makes, step_moves}
+use Rattle.fault_laws.proofs.Following.{Follows, IsPlain, counted_plain, goes_follows}
+use Rattle.fault_laws.proofs.Following.{leaves_follow}
+use Rattle.fault_laws.proofs.Moves.{PostsBy, SendsOne, Moves, Stays, Leaves, Stops, StepTo}
+use Rattle.fault_laws.proofs.Moves.{CountsNone, CountsFull, Makes, step_moves}
 use Rattle.fault_laws.proofs.Reasons.{why_told}
 
 -- a leave that faults has a reason
@@ -44,7 +48,8 @@ record HasReason (x : Exchange) (c : Config) (deed : Deed) : Type 0 where
   fault : Fault
   why : Why x c deed fault
 
-leave_reason : (x : Exchange) (deed : Deed) (rest : List Item) (c d : Config) (f : Fault) (point : ℕ) → c.over ≡ None → Leave x deed rest c d → d.over ≡ Some (Faulted f point) → HasReason x c deed
+leave_reason : (x : Exchange) (deed : Deed) (rest : List Item) (c d : Config) (f : Fault) (point : ℕ) → c.over ≡ None
+    → Leave x deed rest c d → d.over ≡ Some (Faulted f point) → HasReason x c deed
 leave_reason x deed rest c d f point going (Begins e b signal vs is) over = absurd (none-some (Faulted f point) (sym going ∙ over))
 leave_reason x deed rest c d f point going (Asks e b signal answer vs is room) over = absurd (none-some (Faulted f point) (sym going ∙ over))
 leave_reason x deed rest c d f point going (Returns e p answer values vs k ks is given some same) over = absurd (none-some (Faulted f point) (sym going ∙ over))
@@ -60,13 +65,21 @@ leave_sends x deed rest c d (Ends e p l is end none) = refl
 leave_sends x deed rest c d (Faults e g why) = refl
 
 module _ (x : Exchange) (kept : IsExchange x) (P : Facts) (closed : IsClosed x P) (e : ℕ) (args : List ℕ) where
-  posts_at : (c : Config) (deed : Deed) (rest : List Item) → DeedStands x c.block deed rest → Reached P e (deed_point deed) → PostsBy x deed → PostsAt x P e (deed_point deed)
-  posts_at c (Doing p l) rest at reached posts = record { at = at_place c.block p l rest; stands = record { place = deed_place at; here = refl }; reached = reached; posts = posts }
+  posts_at : (c : Config) (deed : Deed) (rest : List Item) → DeedStands x c.block deed rest
+      → Reached P e (deed_point deed) → PostsBy x deed → PostsAt x P e (deed_point deed)
+  posts_at c (Doing p l) rest at reached posts = record {
+    at = at_place c.block p l rest;
+    stands = record { place = deed_place at; here = refl };
+    reached = reached;
+    posts = posts;
+  }
   posts_at c (Starting p l) rest at reached posts = absurd posts
   posts_at c (Turning p temp this end body) rest at reached posts = absurd posts
 
   -- what is counted next follows what is counted
-  moves_follow : (deed : Deed) (rest : List Item) (c d : Config) → DeedStands x c.block deed rest → IsPlain deed → Reached P e (deed_point deed) → AllWaitAtRetrieve c → AreRests x d → Covered x P e args d → Moves x deed rest c d → d.over ≡ None
+  moves_follow : (deed : Deed) (rest : List Item) (c d : Config) → DeedStands x c.block deed rest → IsPlain deed
+      → Reached P e (deed_point deed) → AllWaitAtRetrieve c → AreRests x d → Covered x P e args d
+      → Moves x deed rest c d → d.over ≡ None
       → (i : Item) (more : List Item) → next_counted d.todo ≡ i ∷ more → Follows x P e deed (deed_of i)
   moves_follow deed rest c d at plain reached waits into covered (Stays last on block over sends) going i more is =
       goes_follows x kept P closed e args rest c deed d.todo d.temps d.own.given d.callers at plain reached (subst (λ b. IsRest x b d.todo) block into.here)
@@ -81,13 +94,16 @@ module _ (x : Exchange) (kept : IsExchange x) (P : Facts) (closed : IsClosed x P
   moves_send deed rest c d (Stops t todo f why) = inl refl
 
   -- a step that faults has a reason, which its statement had where it was counted
-  moves_fault : (A : Type 0) (deed : Deed) (rest : List Item) (c d : Config) (f : Fault) (point : ℕ) → c.over ≡ None → Moves x deed rest c d → d.over ≡ Some (Faulted f point)
+  moves_fault : (A : Type 0) (deed : Deed) (rest : List Item) (c d : Config) (f : Fault) (point : ℕ) → c.over ≡ None
+      → Moves x deed rest c d → d.over ≡ Some (Faulted f point)
       → ((t : List Touch) (todo : List Item) (g : Fault) → Why x (goes todo (traced t c)) deed g → A) → A
   moves_fault A deed rest c d f point going (Stays last on block over sends) is told = absurd (none-some (Faulted f point) (sym going ∙ sym over ∙ is))
-  moves_fault A deed rest c d f point going (Leaves t last leave) is told = (let r = leave_reason x deed rest (traced t c) d f point going leave is in told t c.todo r.fault r.why)
+  moves_fault A deed rest c d f point going (Leaves t last leave) is
+      told = (let r = leave_reason x deed rest (traced t c) d f point going leave is in told t c.todo r.fault r.why)
   moves_fault A deed rest c d f point going (Stops t todo g why) is told = told t todo g why
 
-module _ (x : Exchange) (kept : IsExchange x) (P : Facts) (closed : IsClosed x P) (start : JobStart) (store : List ℕ) (is_job : IsJob x start.job) (fits : StoreFits x store) where
+module _ (x : Exchange) (kept : IsExchange x) (P : Facts) (closed : IsClosed x P) (start : JobStart) (store : List ℕ)
+    (is_job : IsJob x start.job) (fits : StoreFits x store) where
   abbrev e : ℕ
   e = start.job.entry
 
@@ -132,14 +148,22 @@ module _ (x : Exchange) (kept : IsExchange x) (P : Facts) (closed : IsClosed x P
     posts : (i : Item) (rest : List Item) → next_counted c.todo ≡ i ∷ rest → PostsBy x (deed_of i) → PostsAt x P e (deed_point (deed_of i))
     posts i rest is by = posts_at x kept P closed e start.job.values c (deed_of i) rest (stands i rest is) (reached i rest is) by
 
-    step_tracked : (d : Config) → d.over ≡ None → d.own.count ≡ c.own.count + 1 → AreRests x d → Covered x P e start.job.values d → (i : Item) (rest : List Item) → next_counted c.todo ≡ i ∷ rest → Moves x (deed_of i) rest (with_counted i c) d → Tracked d
+    step_tracked : (d : Config) → d.over ≡ None → d.own.count ≡ c.own.count + 1 → AreRests x d
+        → Covered x P e start.job.values d → (i : Item) (rest : List Item) → next_counted c.todo ≡ i ∷ rest
+        → Moves x (deed_of i) rest (with_counted i c) d → Tracked d
     step_tracked d on one into covered i rest is moves next more after =
-        ⊎_elim inl (λ (h : Passed x P e c (deed_of i)). ⊎_elim inl (λ new. inr (passed_on x P e c d (deed_of i) (deed_of next) (deed_below x kept c.block (deed_of i) rest (stands i rest is)) h new
-        (moves_follow x kept P closed e start.job.values (deed_of i) rest (with_counted i c) d (stands i rest is) (counted_plain c.todo i rest is) (reached i rest is) (steps_wait x kept n start store) into covered moves on next more after)
-        one (posts i rest is) (moves_send x kept P closed e start.job.values (deed_of i) rest (with_counted i c) d moves))) (is_new x P e c (deed_of i) h)) (tracked i rest is)
+        ⊎_elim inl (λ (h : Passed x P e c (deed_of i)). ⊎_elim inl
+        (λ new. inr (passed_on x P e c d (deed_of i) (deed_of next)
+        (deed_below x kept c.block (deed_of i) rest (stands i rest is)) h new
+        (moves_follow x kept P closed e start.job.values (deed_of i) rest (with_counted i c) d (stands i rest is)
+        (counted_plain c.todo i rest is) (reached i rest is) (steps_wait x kept n start store) into covered moves on
+        next more after)
+        one (posts i rest is) (moves_send x kept P closed e start.job.values (deed_of i) rest (with_counted i c) d
+        moves))) (is_new x P e c (deed_of i) h)) (tracked i rest is)
 
     -- so where it faults the summary says that it may
-    step_faults : (d : Config) (f : Fault) (point : ℕ) → d.over ≡ Some (Faulted f point) → (i : Item) (rest : List Item) → next_counted c.todo ≡ i ∷ rest → Moves x (deed_of i) rest (with_counted i c) d → MayFault x P e
+    step_faults : (d : Config) (f : Fault) (point : ℕ) → d.over ≡ Some (Faulted f point) → (i : Item) (rest : List Item)
+        → next_counted c.todo ≡ i ∷ rest → Moves x (deed_of i) rest (with_counted i c) d → MayFault x P e
     step_faults d f point over i rest is moves = ⊎_elim (λ round. inr (inr round)) passed (tracked i rest is)
       where
         passed : Passed x P e c (deed_of i) → MayFault x P e
@@ -150,13 +174,18 @@ module _ (x : Exchange) (kept : IsExchange x) (P : Facts) (closed : IsClosed x P
                 let range = steps_in_range x kept n start store is_job fits in
                 moves_fault x kept P closed e start.job.values (MayFault x P e) (deed_of i) rest (with_counted i c) d f point going moves over
                 (λ t todo g why. ⊎_elim inl
-                (λ many. inr (inl (one_too_many x P e c (deed_of i) h new (deed_below x kept c.block (deed_of i) rest (stands i rest is)) (posts i rest is many.0) many.0 many.1)))
-                (why_told x kept P e start.job.values (with_counted i c) range.temps range.store (steps_few x n start store) (deed_of i) rest t todo g (stands i rest is) (known i rest is) why))
+                (λ many. inr (inl (one_too_many x P e c (deed_of i) h new
+                (deed_below x kept c.block (deed_of i) rest (stands i rest is)) (posts i rest is many.0) many.0
+                many.1)))
+                (why_told x kept P e start.job.values (with_counted i c) range.temps range.store
+                (steps_few x n start store) (deed_of i) rest t todo g (stands i rest is) (known i rest is) why))
 
     full_faults : (i : Item) (rest : List Item) → next_counted c.todo ≡ i ∷ rest → nat_lt c.own.count budget ≡ false → GoesRound x P e
-    full_faults i rest is full = ⊎_elim (λ round. round) (λ (h : Passed x P e c (deed_of i)). absurd (budget_left x P e c (deed_of i) kept h full)) (tracked i rest is)
+    full_faults i rest is full = ⊎_elim (λ round. round)
+        (λ (h : Passed x P e c (deed_of i)). absurd (budget_left x P e c (deed_of i) kept h full)) (tracked i rest is)
 
-    next_tracked : (d : Config) → StepTo x c d → d.over ≡ None → d.own.count ≡ c.own.count + 1 → (nat_lt c.own.count budget ≡ false → ⊥) → AreRests x d → Covered x P e start.job.values d → Tracked d
+    next_tracked : (d : Config) → StepTo x c d → d.over ≡ None → d.own.count ≡ c.own.count + 1
+        → (nat_lt c.own.count budget ≡ false → ⊥) → AreRests x d → Covered x P e start.job.values d → Tracked d
     next_tracked d (CountsNone last none) on one room into covered = absurd (counts_something n none)
     next_tracked d (CountsFull i rest last is full) on one room into covered = absurd (room full)
     next_tracked d (Makes i rest last is moves) on one room into covered = step_tracked d on one into covered i rest is moves
@@ -171,9 +200,14 @@ module _ (x : Exchange) (kept : IsExchange x) (P : Facts) (closed : IsClosed x P
       let d = step x (at n) in
       let over : d.over ≡ None = ap (λ (c : Config). c.over) (sym made) ∙ on in
       let counts = step_counts x (at n) d over (every_step x (at n)) in
-      let room : nat_lt (at n).own.count budget ≡ false → ⊥ = λ full. let lt = counts.below in let le = ltb-false (at n).own.count budget full in omega (arith, lt, le) in
+      let room : nat_lt (at n).own.count budget ≡ false
+      → ⊥ = λ full. let lt = counts.below in let le = ltb-false (at n).own.count budget full in omega
+      (arith, lt, le) in
       subst Tracked (sym made)
-      (next_tracked n going tracked d (step_moves x (at n)) over counts.one room (subst (AreRests x) made (steps_rest x start store (suc n))) (subst (Covered x P e start.job.values) made (steps_covered x kept P closed start store is_job fits (suc n) on)))
+      (next_tracked n going tracked d (step_moves x (at n)) over counts.one room
+      (subst (AreRests x) made (steps_rest x start store (suc n)))
+      (subst (Covered x P e start.job.values) made
+      (steps_covered x kept P closed start store is_job fits (suc n) on)))
 
   tracks : (n : ℕ) → (at n).over ≡ None → Tracked (at n)
   tracks zero going = first_tracked

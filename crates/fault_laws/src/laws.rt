@@ -14,9 +14,10 @@ ghost use Rattle.entry_summary.specs.declared.summary.Summary.{Summary};
 ghost use Rattle.entry_summary.specs.Faults.{MayFault};
 ghost use Rattle.entry_summary.specs.Summaries.{IsSummary};
 
-/// A job faults only where facts that are closed, or the least facts, say that a job of its entry may: at a statement that is
-/// reached and may fault, by more sends than a job may make, or by more statements than it may count. So the summary of its
-/// entry by these facts says that it may fault. It holds over every store of an exchange, whatever records the job holds.
+/// A job faults only where facts that are closed, or the least facts, say that a job of its entry
+/// may: at a statement that is reached and may fault, by more sends than a job may make, or by more
+/// statements than it may count. So the summary of its entry by these facts says that it may fault.
+/// It holds over every store of an exchange, whatever records the job holds.
 pub fn faults_are_told()
     ensures steps { (x : Exchange) (facts : List Fact) (start : JobStart) (store : List ℕ) (n : ℕ)
         (f : Fault) (point : ℕ)

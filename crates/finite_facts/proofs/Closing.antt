@@ -1,5 +1,7 @@
--- What rules give from a list may be added until nothing new comes: of finitely many things that takes finitely many turns.
-use Rattle.std.proofs.Common.{◌≡◌, ◌⊎◌, inl, inr, ℕ, zero, suc, ◌≤◌, List, [], ◌∷◌, length, Contains, refl, sym, ◌∙◌, subst, arith, le_refl}
+-- What rules give from a list may be added until nothing new comes: of finitely many things that
+-- takes finitely many turns.
+use Rattle.std.proofs.Common.{◌≡◌, ◌⊎◌, inl, inr, ℕ, zero, suc, ◌≤◌, List, [], ◌∷◌, length}
+use Rattle.std.proofs.Common.{Contains, refl, sym, ◌∙◌, subst, arith, le_refl}
 use Rattle.plex_num.proofs.Members.{none_in, first_is, later_is, first_or_later}
 use Rattle.finite_facts.proofs.Finite.{Decided, yes, no, Listed, any, is_in, listed_if, refuted}
 
@@ -67,7 +69,8 @@ module _ {A : Type 0} (same : (a b : A) → Decided (a ≡ b)) (Rule : List A �
       by (inr d) = at (w.left c d)
 
   news : (known : List A) → Decided ((a : A) × (Rule known a × (Contains known a → ⊥)))
-  news known = any (λ a. Rule known a × (Contains known a → ⊥)) (listed_if (Rule known) (λ a. Contains known a → ⊥) (rules known) (λ a r. refuted (is_in same known a)))
+  news known = any (λ a. Rule known a × (Contains known a → ⊥))
+      (listed_if (Rule known) (λ a. Contains known a → ⊥) (rules known) (λ a r. refuted (is_in same known a)))
 
   grow : (n : ℕ) (rest known : List A) → length rest ≤ n → IsBuilt Rule known → Stays known rest → Closed Rule
   grow zero rest known short built within = record { items = known; built = built; closed = λ a r. by a (within known built a r) }
@@ -75,7 +78,9 @@ module _ {A : Type 0} (same : (a b : A) → Decided (a ≡ b)) (Rule : List A �
       by : (a : A) → Contains known a ⊎ Contains rest a → Contains known a
       by a (inl c) = c
       by a (inr c) = absurd (let lt = c.1 in omega (arith, short, lt))
-  grow (suc n) rest known short built within = by (news known) (λ a r new. next a r (without a rest (others_left known rest a new (within known built a r))) (λ w few. grow n w.others (a ∷ known) few (r, built) (stays known rest a w within)))
+  grow (suc n) rest known short built within = by (news known)
+      (λ a r new. next a r (without a rest (others_left known rest a new (within known built a r)))
+      (λ w few. grow n w.others (a ∷ known) few (r, built) (stays known rest a w within)))
     where
       next : (a : A) → Rule known a → Without a rest → ((w : Without a rest) → length w.others ≤ n → Closed Rule) → Closed Rule
       next a r w go = go w (let short_by = w.shorter in omega (arith, short, short_by))

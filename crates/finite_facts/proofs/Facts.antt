@@ -1,5 +1,6 @@
 -- The least facts of an exchange are a list.
-use Rattle.std.proofs.Common.{◌≡◌, ◌⊎◌, inl, inr, ℕ, ◌+◌, ◌<◌, List, [], ◌∷◌, length, Some, Contains, slice_get, sym, ap, subst}
+use Rattle.std.proofs.Common.{◌≡◌, ◌⊎◌, inl, inr, ℕ, ◌+◌, ◌<◌, List, [], ◌∷◌, length, Some}
+use Rattle.std.proofs.Common.{Contains, slice_get, sym, ap, subst}
 use Rattle.std.proofs.lemmas.Option.{slice_get_within}
 use Rattle.plex_limits.specs.declared.limits.TheConstants.{MOST_CALLERS}
 use Rattle.plex_num.proofs.Members.{first_is, first_or_later, none_in}
@@ -19,7 +20,8 @@ use Rattle.flow_points.specs.Slots.{HasSlot, IsSlotOf}
 use Rattle.flow_points.specs.Sources.{source_of, start_source}
 use Rattle.flow_points.proofs.Least.{derived_in, least_in}
 use Rattle.finite_facts.proofs.Closing.{Closed, IsBuilt, closing}
-use Rattle.finite_facts.proofs.Finite.{Listed, below, listed_as, listed_map, listed_none, listed_one, listed_or, listed_some, listed_then}
+use Rattle.finite_facts.proofs.Finite.{Listed, below, listed_as, listed_map, listed_none}
+use Rattle.finite_facts.proofs.Finite.{listed_one, listed_or, listed_some, listed_then}
 use Rattle.finite_facts.proofs.Giving.{given, same_fact}
 use Rattle.finite_facts.proofs.Leading.{WayOn, leads}
 use Rattle.finite_facts.proofs.Places.{places}
@@ -63,12 +65,16 @@ module _ (x : Exchange) where
   TextValue v = StartValue v ⊎ (FlowValue v ⊎ DeepValue v)
 
   text_values : Listed TextValue
-  text_values = listed_or StartValue (λ v. FlowValue v ⊎ DeepValue v) starts (listed_or FlowValue DeepValue flows (listed_map (λ c. c < MOST_CALLERS) (λ c. Const (c + 1)) (below MOST_CALLERS)))
+  text_values = listed_or StartValue (λ v. FlowValue v ⊎ DeepValue v) starts
+      (listed_or FlowValue DeepValue flows (listed_map (λ c. c < MOST_CALLERS) (λ c. Const (c + 1))
+      (below MOST_CALLERS)))
     where
       starts : Listed StartValue
       starts = listed_then (λ e. e < length x.entries) OfEntry (below (length x.entries))
           (λ e lt. listed_then (λ entry. slice_get x.entries e ≡ Some entry) AtStart (listed_some (slice_get x.entries e))
-          (λ entry there. listed_then (HasSlot x entry.point) (λ s v. start_source (value_count x entry.signal) s ≡ Is v) (slots_at x entry.point) (λ s has. source_is (start_source (value_count x entry.signal) s))))
+          (λ entry there. listed_then (HasSlot x entry.point)
+          (λ s v. start_source (value_count x entry.signal) s ≡ Is v) (slots_at x entry.point)
+          (λ s has. source_is (start_source (value_count x entry.signal) s))))
 
       flows : Listed FlowValue
       flows = listed_then (IsPlace x) OfPlace (places x)
@@ -114,11 +120,13 @@ module _ (x : Exchange) where
   text_closed f (inl g) =
       let lt = slice_get_within x.entries f.entry g.entry g.there in
       text_fact f.entry f.point f.slot f.value lt g.slot
-      (source_in f.entry f.point (start_source (value_count x g.entry.signal) f.slot) f.value g.gives (λ is. inl (f.entry, lt, (g.entry, g.there, (f.slot, subst (λ n. HasSlot x n f.slot) g.lands g.slot, is)))))
+      (source_in f.entry f.point (start_source (value_count x g.entry.signal) f.slot) f.value g.gives
+      (λ is. inl (f.entry, lt, (g.entry, g.there, (f.slot, subst (λ n. HasSlot x n f.slot) g.lands g.slot, is)))))
   text_closed f (inr (p, g)) =
       let w = g.flow in
       text_fact f.entry f.point f.slot f.value (entry_in (fact f.entry g.at.point _ w.reached.0) w.reached.1) w.slot
-      (source_in f.entry g.at.point (source_of g.how f.slot) f.value w.gives (λ is. inr (inl (g.at, g.stands.place, ((f.point, g.how), w.leads, (f.slot, w.slot, is))))))
+      (source_in f.entry g.at.point (source_of g.how f.slot) f.value w.gives
+      (λ is. inr (inl (g.at, g.stands.place, ((f.point, g.how), w.leads, (f.slot, w.slot, is))))))
 
   -- what follows from nothing, turn by turn
 
@@ -130,7 +138,9 @@ module _ (x : Exchange) where
   derived (f ∷ fs) built = (built.0, derived fs built.1)
 
   closure : Closed Rule
-  closure = closing same_fact Rule (given x) in_text.items (λ before built f r. in_text.all f (derived_in x InText text_closed (f ∷ before) (r, derived before built) f (first_is f before)))
+  closure = closing same_fact Rule (given x) in_text.items
+      (λ before built f r. in_text.all f (derived_in x InText text_closed (f ∷ before) (r, derived before built) f
+      (first_is f before)))
 
   ends_with : (fs : List Fact) → IsDerivation x fs → (f : Fact) → Contains fs f → IsLeast x f
   ends_with [] d f c = absurd (none_in f c)

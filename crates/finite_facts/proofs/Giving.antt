@@ -1,5 +1,6 @@
 -- What one rule gives from a list of facts, as a list.
-use Rattle.std.proofs.Common.{◌≡◌, ℕ, ◌+◌, ◌<◌, List, length, Some, Contains, slice_get, refl, sym, ap, subst}
+use Rattle.std.proofs.Common.{◌≡◌, ℕ, ◌+◌, ◌<◌, List, length, Some, Contains, slice_get, refl, sym}
+use Rattle.std.proofs.Common.{ap, subst}
 use Rattle.std.proofs.lemmas.Option.{slice_get_within}
 use Rattle.plex_limits.specs.declared.limits.TheConstants.{MOST_CALLERS}
 use Rattle.exchange_model.specs.declared.exchange.Exchange.{Exchange}
@@ -11,15 +12,20 @@ use Rattle.flow_points.specs.declared.fact.Slot.TheVariants.{Answered, Awaits, D
 use Rattle.flow_points.specs.declared.fact.Value.{Value}
 use Rattle.flow_points.specs.declared.fact.Value.TheVariants.{Any, Arg, Const}
 use Rattle.flow_points.specs.declared.flow.Passing.{Passing}
-use Rattle.flow_points.specs.declared.flow.Passing.TheVariants.{Answers, Begins, Calls, Kept, Passes, Retrieves, Sets, Takes}
+use Rattle.flow_points.specs.declared.flow.Passing.TheVariants.{Answers, Begins, Calls, Kept}
+use Rattle.flow_points.specs.declared.flow.Passing.TheVariants.{Passes, Retrieves, Sets, Takes}
 use Rattle.flow_points.specs.declared.flow.Source.{Source}
 use Rattle.flow_points.specs.declared.flow.Source.TheVariants.{Deeper, Is, Nothing, Of}
-use Rattle.flow_points.specs.Facts.{FlowGives, Gives, Guarded, HasRoomForCaller, Known, PointGives, Reached, SourceGives, StartGives, fact}
+use Rattle.flow_points.specs.Facts.{FlowGives, Gives, Guarded, HasRoomForCaller, Known, PointGives}
+use Rattle.flow_points.specs.Facts.{Reached, SourceGives, StartGives, fact}
 use Rattle.flow_points.specs.Flows.{LeadsTo}
 use Rattle.flow_points.specs.Places.{IsPlace, Place}
 use Rattle.flow_points.specs.Slots.{HasSlot}
 use Rattle.flow_points.specs.Sources.{source_of, start_source}
-use Rattle.finite_facts.proofs.Finite.{Decided, Listed, any, below, both, certain, decided_as, is_in, listed_as, listed_in, listed_none, listed_one, listed_or, listed_some, listed_then, listed_when, no, same_number, some_case, yes}
+use Rattle.finite_facts.proofs.Finite.{Decided, Listed, any, below, both, certain, decided_as}
+use Rattle.finite_facts.proofs.Finite.{is_in, listed_as, listed_in, listed_none, listed_one}
+use Rattle.finite_facts.proofs.Finite.{listed_or, listed_some, listed_then, listed_when, no}
+use Rattle.finite_facts.proofs.Finite.{same_number, some_case, yes}
 use Rattle.finite_facts.proofs.Leading.{WayOn, leads}
 use Rattle.finite_facts.proofs.Places.{places}
 use Rattle.finite_facts.proofs.Slots.{slots_at}
@@ -67,14 +73,16 @@ module _ (known : List Fact) where
   IsOf e p s f = (f.entry ≡ e) × (f.point ≡ p) × (f.slot ≡ s)
 
   is_of : (e p : ℕ) (s : Slot) (f : Fact) → Decided (IsOf e p s f)
-  is_of e p s f = decided_as (λ h. (h.0.0, h.0.1, h.1)) (λ h. ((h.0, h.1), h.2)) (both (both (same_number f.entry e) (same_number f.point p)) (same_slot f.slot s))
+  is_of e p s f = decided_as (λ h. (h.0.0, h.0.1, h.1)) (λ h. ((h.0, h.1), h.2))
+      (both (both (same_number f.entry e) (same_number f.point p)) (same_slot f.slot s))
 
   pub known_values : (e p : ℕ) (s : Slot) → Listed (λ v. Known (Contains known) e p s v)
   known_values e p s =
       listed_as (λ v. (f : Fact) × Contains known f × (IsOf e p s f × (v ≡ f.value))) (λ v. Known (Contains known) e p s v)
       (λ v h. subst (Contains known) (λ i. record { entry = h.2.0.0 i; point = h.2.0.1 i; slot = h.2.0.2 i; value = sym h.2.1 i }) h.1)
       (λ v c. (fact e p s v, c, ((refl, refl, refl), refl)))
-      (listed_then (λ f. Contains known f) (λ f v. IsOf e p s f × (v ≡ f.value)) (listed_in known) (λ f c. listed_when (IsOf e p s f) (λ v. v ≡ f.value) (is_of e p s f) (λ h. listed_one f.value)))
+      (listed_then (λ f. Contains known f) (λ f v. IsOf e p s f × (v ≡ f.value)) (listed_in known)
+      (λ f c. listed_when (IsOf e p s f) (λ v. v ≡ f.value) (is_of e p s f) (λ h. listed_one f.value)))
 
   pub is_known : (f : Fact) → Decided (Contains known f)
   is_known f = is_in same_fact known f
@@ -83,7 +91,8 @@ module _ (known : List Fact) where
   is_reached e p = any (λ v. Known (Contains known) e p Depth v) (known_values e p Depth)
 
   has_room : (e p : ℕ) → Decided (HasRoomForCaller (Contains known) e p)
-  has_room e p = some_case (λ c. c < MOST_CALLERS) (λ c. Known (Contains known) e p Depth (Const c)) (below MOST_CALLERS) (λ c lt. is_known (fact e p Depth (Const c)))
+  has_room e p = some_case (λ c. c < MOST_CALLERS) (λ c. Known (Contains known) e p Depth (Const c))
+      (below MOST_CALLERS) (λ c lt. is_known (fact e p Depth (Const c)))
 
   guarded : (e p q : ℕ) (how : Passing) → Decided (Guarded (Contains known) e p q how)
   guarded e p q (Calls values answer) = has_room e p
@@ -99,10 +108,12 @@ module _ (known : List Fact) where
   source_values e p (Of s) = known_values e p s
   source_values e p (Is w) = listed_one w
   source_values e p Deeper =
-      listed_as (λ v. (c : ℕ) × (c < MOST_CALLERS) × (Known (Contains known) e p Depth (Const c) × (v ≡ Const (c + 1)))) (SourceGives (Contains known) e p Deeper)
+      listed_as (λ v. (c : ℕ) × (c < MOST_CALLERS) × (Known (Contains known) e p Depth (Const c) × (v ≡ Const (c + 1))))
+      (SourceGives (Contains known) e p Deeper)
       (λ v h. (h.0, h.1, h.2.1, h.2.0)) (λ v h. (h.0, h.1, (h.3, h.2)))
       (listed_then (λ c. c < MOST_CALLERS) (λ c v. Known (Contains known) e p Depth (Const c) × (v ≡ Const (c + 1))) (below MOST_CALLERS)
-      (λ c lt. listed_when (Known (Contains known) e p Depth (Const c)) (λ v. v ≡ Const (c + 1)) (is_known (fact e p Depth (Const c))) (λ k. listed_one (Const (c + 1)))))
+      (λ c lt. listed_when (Known (Contains known) e p Depth (Const c)) (λ v. v ≡ Const (c + 1))
+      (is_known (fact e p Depth (Const c))) (λ k. listed_one (Const (c + 1)))))
   source_values e p Nothing = listed_none (SourceGives (Contains known) e p Nothing) (λ v h. h)
 
 -- what is given
@@ -113,7 +124,8 @@ module _ (x : Exchange) (known : List Fact) where
   Values e p q s source f = (v : Value) × SourceGives (Contains known) e p source v × (f ≡ fact e q s v)
 
   values : (e p q : ℕ) (s : Slot) (source : Source) → Listed (Values e p q s source)
-  values e p q s source = listed_then (SourceGives (Contains known) e p source) (λ v f. f ≡ fact e q s v) (source_values known e p source) (λ v g. listed_one (fact e q s v))
+  values e p q s source = listed_then (SourceGives (Contains known) e p source) (λ v f. f ≡ fact e q s v)
+      (source_values known e p source) (λ v g. listed_one (fact e q s v))
 
   -- of each slot at a point
   abbrev AllSlots : ℕ → ℕ → ℕ → (Slot → Source) → Fact → Type 0
@@ -134,7 +146,9 @@ module _ (x : Exchange) (known : List Fact) where
   starts =
       listed_as (λ f. (e : ℕ) × (e < length x.entries) × OfEntry e f) (StartGives x (Contains known)) to from
       (listed_then (λ e. e < length x.entries) OfEntry (below (length x.entries))
-      (λ e lt. listed_then (λ entry. slice_get x.entries e ≡ Some entry) (λ entry f. AllSlots e entry.point entry.point (starting entry) f) (listed_some (slice_get x.entries e)) (λ entry there. all_slots e entry.point entry.point (starting entry))))
+      (λ e lt. listed_then (λ entry. slice_get x.entries e ≡ Some entry)
+      (λ entry f. AllSlots e entry.point entry.point (starting entry) f) (listed_some (slice_get x.entries e))
+      (λ entry there. all_slots e entry.point entry.point (starting entry))))
     where
       to : (f : Fact) → (e : ℕ) × (e < length x.entries) × OfEntry e f → StartGives x (Contains known) f
       to f h =
@@ -153,7 +167,12 @@ module _ (x : Exchange) (known : List Fact) where
           (
             f.slot,
             subst (λ n. HasSlot x n f.slot) g.lands g.slot,
-            (f.value, subst (λ n. SourceGives (Contains known) f.entry n (starting g.entry f.slot) f.value) g.lands g.gives, λ i. record { entry = f.entry; point = g.lands i; slot = f.slot; value = f.value }),
+            (
+              f.value,
+              subst (λ n. SourceGives (Contains known) f.entry n (starting g.entry f.slot) f.value) g.lands
+                  g.gives,
+              λ i. record { entry = f.entry; point = g.lands i; slot = f.slot; value = f.value },
+            ),
           ),
         ),
       )
@@ -170,7 +189,8 @@ module _ (x : Exchange) (known : List Fact) where
   OfPlace at f = (w : WayOn) × LeadsTo x at w.0 w.1 × OfReached at w f
 
   reaches : (at : Place) (w : WayOn) (r : Fact) → Decided (Reaches at w r)
-  reaches at w r = decided_as (λ h. (h.0.0, h.0.1, h.1)) (λ h. ((h.0, h.1), h.2)) (both (both (same_number r.point at.point) (same_slot r.slot Depth)) (guarded known r.entry at.point w.0 w.1))
+  reaches at w r = decided_as (λ h. (h.0.0, h.0.1, h.1)) (λ h. ((h.0, h.1), h.2))
+      (both (both (same_number r.point at.point) (same_slot r.slot Depth)) (guarded known r.entry at.point w.0 w.1))
 
   flows : Listed (λ f. (p : ℕ) × PointGives x (Contains known) p f)
   flows =
@@ -178,7 +198,8 @@ module _ (x : Exchange) (known : List Fact) where
       (listed_then (IsPlace x) OfPlace (places x)
       (λ at is. listed_then (λ w. LeadsTo x at w.0 w.1) (λ w f. OfReached at w f) (leads x at)
       (λ w to. listed_then (λ r. Contains known r) (λ r f. Reaches at w r × AllSlots r.entry at.point w.0 (source_of w.1) f) (listed_in known)
-      (λ r c. listed_when (Reaches at w r) (AllSlots r.entry at.point w.0 (source_of w.1)) (reaches at w r) (λ h. all_slots r.entry at.point w.0 (source_of w.1))))))
+      (λ r c. listed_when (Reaches at w r) (AllSlots r.entry at.point w.0 (source_of w.1)) (reaches at w r)
+      (λ h. all_slots r.entry at.point w.0 (source_of w.1))))))
     where
       to : (f : Fact) → (at : Place) × IsPlace x at × OfPlace at f → (p : ℕ) × PointGives x (Contains known) p f
       to f h =
@@ -189,21 +210,38 @@ module _ (x : Exchange) (known : List Fact) where
           let reach = h.2.2.2.0 in
           let s = h.2.2.2.1 in
           let v = s.2 in
-          let reached : Reached (Contains known) r.entry at.point = (r.value, subst (Contains known) (λ i. record { entry = r.entry; point = reach.0 i; slot = reach.1 i; value = r.value }) known_there) in (
+          let reached : Reached (Contains known) r.entry
+          at.point = (
+            r.value,
+            subst (Contains known)
+                (λ i. record { entry = r.entry; point = reach.0 i; slot = reach.1 i; value = r.value }) known_there,
+          ) in (
             at.point,
             record {
               at = at;
               stands = record { place = h.1; here = refl };
               how = w.1;
-              flow = subst (FlowGives x (Contains known) at w.1) (sym v.2) (record { leads = h.2.1; reached = reached; guarded = reach.2; slot = s.1; gives = v.1 });
+              flow = subst (FlowGives x (Contains known) at w.1) (sym v.2)
+                  (record { leads = h.2.1; reached = reached; guarded = reach.2; slot = s.1; gives = v.1 });
             },
           )
 
       from : (f : Fact) → (p : ℕ) × PointGives x (Contains known) p f → (at : Place) × IsPlace x at × OfPlace at f
       from f h =
           let g = h.1 in
-          let w = g.flow in
-          (g.at, g.stands.place, ((f.point, g.how), w.leads, (fact f.entry g.at.point Depth w.reached.0, w.reached.1, ((refl, refl, w.guarded), (f.slot, w.slot, (f.value, w.gives, refl))))))
+          let w = g.flow in (
+            g.at,
+            g.stands.place,
+            (
+              (f.point, g.how),
+              w.leads,
+              (
+                fact f.entry g.at.point Depth w.reached.0,
+                w.reached.1,
+                ((refl, refl, w.guarded), (f.slot, w.slot, (f.value, w.gives, refl))),
+              ),
+            ),
+          )
 
   pub given : Listed (Gives x (Contains known))
   given = listed_or (StartGives x (Contains known)) (λ f. (p : ℕ) × PointGives x (Contains known) p f) starts flows

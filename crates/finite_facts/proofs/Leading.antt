@@ -10,7 +10,8 @@ use Rattle.flow_table.specs.declared.way.Ends.TheVariants as ends
 use Rattle.flow_table.specs.declared.way.Way.{Way as TableWay}
 use Rattle.flow_table.specs.Ways.{IsWayEnd, WayLeads, ways_of}
 use Rattle.flow_table.proofs.Telling.{ways_exact}
-use Rattle.finite_facts.proofs.Finite.{Listed, listed_as, listed_in, listed_one, listed_then, listed_when, same_number, same_option}
+use Rattle.finite_facts.proofs.Finite.{Listed, listed_as, listed_in, listed_one, listed_then}
+use Rattle.finite_facts.proofs.Finite.{listed_when, same_number, same_option}
 use Rattle.finite_facts.proofs.Places.{places}
 
 -- a point and how values go along to it

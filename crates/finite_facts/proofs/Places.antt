@@ -3,14 +3,19 @@ use Rattle.std.proofs.Common.{ℕ, ◌+◌, List, [], ◌∷◌, ◌++◌, map, 
 use Rattle.exchange_model.specs.declared.exchange.Exchange.{Exchange}
 use Rattle.exchange_model.specs.declared.block.Block.{Block}
 use Rattle.exchange_model.specs.declared.stmt.Stmt.{Stmt, roll-Stmt}
-use Rattle.exchange_model.specs.declared.stmt.When.{When, out-When, roll-When, map-When, out-roll-When}
-use Rattle.exchange_model.specs.declared.stmt.StmtKind.{StmtKind, StmtKind-F, out-StmtKind, ind-StmtKind, out-roll-StmtKind, map-StmtKind}
+use Rattle.exchange_model.specs.declared.stmt.When.{When, out-When, roll-When, map-When}
+use Rattle.exchange_model.specs.declared.stmt.When.{out-roll-When}
+use Rattle.exchange_model.specs.declared.stmt.StmtKind.{StmtKind, StmtKind-F, out-StmtKind}
+use Rattle.exchange_model.specs.declared.stmt.StmtKind.{ind-StmtKind, out-roll-StmtKind}
+use Rattle.exchange_model.specs.declared.stmt.StmtKind.{map-StmtKind}
 use Rattle.exchange_model.specs.declared.stmt.StmtKind.TheOpen as layer
 use Rattle.source_meaning.specs.Named.{Layer}
 use Rattle.source_meaning.specs.Rests.{first_point}
 use Rattle.source_meaning.proofs.Lists.{all_contained}
 use Rattle.flow_points.specs.Places.{IsPlace, Place, place_of}
-use Rattle.flow_table.specs.Texts.{Chosen, Inside, Texts, Walked, block, choice, no_block, no_choice, nothing_left, of_case, of_if, of_none, of_on, statement}
+use Rattle.flow_table.specs.Texts.{Chosen, Inside, Texts, Walked, block, choice, no_block}
+use Rattle.flow_table.specs.Texts.{no_choice, nothing_left, of_case, of_if, of_none, of_on}
+use Rattle.flow_table.specs.Texts.{statement}
 use Rattle.flow_table.proofs.Finding.{place_found}
 use Rattle.flow_table.proofs.Standing.{texts_stand}
 use Rattle.finite_facts.proofs.Finite.{Listed}
@@ -82,7 +87,10 @@ kind_walks : (k : StmtKind) → KindWalks k
 kind_walks = ind-StmtKind KindWalks StmtWalks WhenWalks
     (λ x y is. subst LayerWalks (sym (out-roll-StmtKind x)) (subst LayerWalks is (layer_walks y)))
     (λ x y is. subst (λ z. StmtWalks (roll-Stmt z)) is (λ b p next. y.kind.1 b p next))
-    (λ x y is. subst (λ z. WhenWalks (roll-When z)) is (subst (λ (w : _). (b : ℕ) (next : Option ℕ) → Held (Walked b w.body next)) (sym (out-roll-When (map-When _ _ _ _ _ _ (λ e. e.0) (λ e. e.0) (λ e. e.0) y))) (λ b next. list_walks y.body b next)))
+    (λ x y is. subst (λ z. WhenWalks (roll-When z)) is
+    (subst (λ (w : _). (b : ℕ) (next : Option ℕ) → Held (Walked b w.body next))
+    (sym (out-roll-When (map-When _ _ _ _ _ _ (λ e. e.0) (λ e. e.0) (λ e. e.0) y)))
+    (λ b next. list_walks y.body b next)))
 
 body_walks : (list : List Stmt) (b : ℕ) (end : Option ℕ) → Held (Walked b list end)
 body_walks [] b end = ([], nothing_left end)

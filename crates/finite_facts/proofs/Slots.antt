@@ -6,7 +6,8 @@ use Rattle.flow_points.specs.declared.fact.Slot.{Slot}
 use Rattle.flow_points.specs.declared.fact.Slot.TheVariants.{Answered, Awaits, Depth, Given, Temp}
 use Rattle.flow_points.specs.Places.{IsPlace, Place}
 use Rattle.flow_points.specs.Slots.{HasSlot, IsSlotOf, answer_count, given_count, temp_count}
-use Rattle.finite_facts.proofs.Finite.{Listed, IsMadeBelow, listed_as, listed_one, listed_or, listed_then, listed_when, made, same_number}
+use Rattle.finite_facts.proofs.Finite.{Listed, IsMadeBelow, listed_as, listed_one, listed_or}
+use Rattle.finite_facts.proofs.Finite.{listed_then, listed_when, made, same_number}
 use Rattle.finite_facts.proofs.Places.{places}
 
 -- one of so many temporaries, entry values and values of an answer, or one of the other two
@@ -52,7 +53,8 @@ module _ (temps given answered : ℕ) where
       listed_as One First to from
       (listed_or (IsMadeBelow (λ t. Temp t) temps) GivenOr (made (λ t. Temp t) temps)
       (listed_or (IsMadeBelow (λ k. Given k) given) AnsweredOr (made (λ k. Given k) given)
-      (listed_or (IsMadeBelow (λ k. Answered k) answered) Other (made (λ k. Answered k) answered) (listed_or (λ s. s ≡ Depth) (λ s. s ≡ Awaits) (listed_one Depth) (listed_one Awaits)))))
+      (listed_or (IsMadeBelow (λ k. Answered k) answered) Other (made (λ k. Answered k) answered)
+      (listed_or (λ s. s ≡ Depth) (λ s. s ≡ Awaits) (listed_one Depth) (listed_one Awaits)))))
 
 -- by their counts
 
@@ -87,4 +89,5 @@ module _ (x : Exchange) where
       listed_as (λ s. (p : Place) × IsPlace x p × ((p.point ≡ q) × IsSlotOf x p s)) (HasSlot x q)
       (λ s h. record { place = h.0; stands = record { place = h.1; here = h.2.0 }; slot = h.2.1 })
       (λ s h. (h.place, h.stands.place, (h.stands.here, h.slot)))
-      (listed_then (IsPlace x) (λ p s. (p.point ≡ q) × IsSlotOf x p s) (places x) (λ p is. listed_when (p.point ≡ q) (IsSlotOf x p) (same_number p.point q) (λ here. slots_of p)))
+      (listed_then (IsPlace x) (λ p s. (p.point ≡ q) × IsSlotOf x p s) (places x)
+      (λ p is. listed_when (p.point ≡ q) (IsSlotOf x p) (same_number p.point q) (λ here. slots_of p)))

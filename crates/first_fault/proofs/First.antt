@@ -1,11 +1,14 @@
 -- What a table of rules answers, and how a pass goes on.
-use Rattle.std.proofs.Common.{⊎_elim, ◌≡◌, ℕ, ◌+◌, ◌<◌, ◌≤◌, Bool, true, false, ◌||◌, ◌⊎◌, inl, inr, List, [], ◌∷◌, ◌++◌, length, take, Some, None, Option, refl, sym, ◌∙◌, ap, arith, slice_get, get_or}
+use Rattle.std.proofs.Common.{⊎_elim, ◌≡◌, ℕ, ◌+◌, ◌<◌, ◌≤◌, Bool, true, false, ◌||◌, ◌⊎◌, inl, inr}
+use Rattle.std.proofs.Common.{List, [], ◌∷◌, ◌++◌, length, take, Some, None, Option, refl, sym, ◌∙◌}
+use Rattle.std.proofs.Common.{ap, arith, slice_get, get_or}
 use Rattle.std.specs.Prelude.{if◌then◌else◌}
 use Rattle.std.proofs.lemmas.List.{take_more}
 use Rattle.std.proofs.lemmas.Option.{slice_get-get_or, slice_get_within, same_Some}
 use Rattle.std.proofs.lemmas.Bool.{cases_lt}
 use Rattle.first_fault.specs.Told.{Among, Above, Rising, HasAll}
-use Rattle.first_fault.specs.First.{any, count, total, or_else, last_of, IsFine, IsFirstFault, breaks_at, first_broken}
+use Rattle.first_fault.specs.First.{any, count, total, or_else, last_of, IsFine, IsFirstFault}
+use Rattle.first_fault.specs.First.{breaks_at, first_broken}
 
 -- the events before the next place
 pub more_events : {E : Type 0} (whole : List E) (i : ℕ) (e : E) → i < length whole → e ≡ get_or whole i e → take (i + 1) whole ≡ take i whole ++ e ∷ []
@@ -45,7 +48,9 @@ module _ {E K R : Type 0} (broken : R → K → E → Bool) (number : R → ℕ)
   none_broken [] k e h q m = absurd m
   none_broken (r ∷ rs) k e h q m = here (broken r k e) refl h m (none_broken rs k e)
     where
-      here : (b : Bool) → broken r k e ≡ b → (if b then Some r else first_broken broken rs k e) ≡ None → (q ≡ r) ⊎ Among q rs → (first_broken broken rs k e ≡ None → (p : R) → Among p rs → broken p k e ≡ false) → broken q k e ≡ false
+      here : (b : Bool) → broken r k e ≡ b → (if b then Some r else first_broken broken rs k e) ≡ None
+          → (q ≡ r) ⊎ Among q rs → (first_broken broken rs k e ≡ None → (p : R) → Among p rs → broken p k e ≡ false)
+          → broken q k e ≡ false
       here true is h m below = cc
       here false is h (inl same) below = rw same is
       here false is h (inr m) below = below h q m
@@ -59,12 +64,17 @@ module _ {E K R : Type 0} (broken : R → K → E → Bool) (number : R → ℕ)
   some_broken [] k e rule up h = cc
   some_broken (r ∷ rs) k e rule up h = here (broken r k e) refl h (some_broken rs k e rule up.1)
     where
-      here : (b : Bool) → broken r k e ≡ b → (if b then Some r else first_broken broken rs k e) ≡ Some rule → (first_broken broken rs k e ≡ Some rule → FirstOf rs k e rule) → FirstOf (r ∷ rs) k e rule
+      here : (b : Bool) → broken r k e ≡ b → (if b then Some r else first_broken broken rs k e) ≡ Some rule
+          → (first_broken broken rs k e ≡ Some rule → FirstOf rs k e rule) → FirstOf (r ∷ rs) k e rule
       here true is h below =
           let same : r ≡ rule = cc in
           record {
             broken_here = rw (← same) is;
-            lowest = λ q m low. elim m [ inl e ↦ absurd (omega (arith, ap number e, ap number same)) | inr m ↦ absurd (omega (arith, above_among number (number r) rs q up.0 m, ap number same)) ];
+            lowest = λ q m low. elim m [
+              | inl e ↦ absurd (omega (arith, ap number e, ap number same))
+              | inr m ↦ absurd
+                  (omega (arith, above_among number (number r) rs q up.0 m, ap number same))
+            ];
             member = inl (sym same);
           }
       here false is h below =
@@ -86,8 +96,11 @@ module _ {E K R : Type 0} (broken : R → K → E → Bool) (number : R → ℕ)
     pub fine_none : FineBelow 0
     fine_none = record { each = λ k e r low at. absurd (omega arith) }
 
-    pub fine_more : (rs : List R) (k : K) (i : ℕ) (e : E) → HasAll number rs → i < length whole → e ≡ get_or whole i e → k ≡ known (take i whole) → None ≡ first_broken broken rs k e → FineBelow i → FineBelow (i + 1)
-    fine_more rs k i e a inside is t h f = record { each = λ j x r low at. ⊎_elim (λ below. f.each j x r below at) (λ here. last j x r here low at) (cases_lt j i) }
+    pub fine_more : (rs : List R) (k : K) (i : ℕ) (e : E) → HasAll number rs → i < length whole → e ≡ get_or whole i e
+        → k ≡ known (take i whole) → None ≡ first_broken broken rs k e → FineBelow i → FineBelow (i + 1)
+    fine_more rs k i e a inside is t h f = record {
+      each = λ j x r low at. ⊎_elim (λ below. f.each j x r below at) (λ here. last j x r here low at) (cases_lt j i);
+    }
       where
         last : (j : ℕ) (x : E) (r : R) → i ≤ j → j < i + 1 → slice_get whole j ≡ Some x → breaks j x r ≡ false
         last j x r a' b at =
@@ -98,7 +111,9 @@ module _ {E K R : Type 0} (broken : R → K → E → Bool) (number : R → ℕ)
     pub fine_all : (i : ℕ) → length whole ≤ i → FineBelow i → IsFine breaks whole
     fine_all i past f = record { each = λ k e r at. let inside = slice_get_within whole k e at in f.each k e r (omega arith) at }
 
-    pub first_fault : (rs : List R) (k : K) (i : ℕ) (e : E) (rule : R) → HasAll number rs → i < length whole → e ≡ get_or whole i e → k ≡ known (take i whole) → Some rule ≡ first_broken broken rs k e → FineBelow i → IsFirstFault breaks number line whole rule (line e)
+    pub first_fault : (rs : List R) (k : K) (i : ℕ) (e : E) (rule : R) → HasAll number rs → i < length whole
+        → e ≡ get_or whole i e → k ≡ known (take i whole) → Some rule ≡ first_broken broken rs k e → FineBelow i
+        → IsFirstFault breaks number line whole rule (line e)
     first_fault rs k i e rule a inside is t h f =
         let found : FirstOf rs k e rule = some_broken rs k e rule a.rising (sym h) in
         record {

@@ -1,4 +1,5 @@
--- How many values a signal has, and how many temporaries a block: no more than an exchange may have.
+-- How many values a signal has, and how many temporaries a block: no more than an exchange may
+-- have.
 use Rattle.std.proofs.Common.{◌≡◌, ℕ, ◌≤◌, length, Option, None, Some, slice_get, refl, arith}
 use Rattle.std.specs.Option.{option_map_or}
 use Rattle.plex_limits.specs.declared.limits.TheConstants.{MOST_VALUES, MOST_TEMPORARIES}

@@ -1,4 +1,5 @@
--- The least facts are closed, they stand in whatever is closed, and a flow looks at its point alone.
+-- The least facts are closed, they stand in whatever is closed, and a flow looks at its point
+-- alone.
 use Rattle.std.proofs.Common.{inl, inr, ⊎_elim, ℕ, List, [], ◌∷◌, ◌++◌, Contains, sym, subst, arith}
 use Rattle.std.proofs.lemmas.List.Elements.{Contains-append_left, Contains-append_right}
 use Rattle.plex_num.proofs.Members.{first_or_later, first_is}
@@ -10,12 +11,15 @@ use Rattle.flow_points.specs.declared.fact.Fact.{Fact}
 use Rattle.flow_points.specs.declared.flow.Source.{Source}
 use Rattle.flow_points.specs.declared.flow.Source.TheVariants.{Of, Is, Deeper, Nothing}
 use Rattle.flow_points.specs.declared.flow.Passing.{Passing}
-use Rattle.flow_points.specs.declared.flow.Passing.TheVariants.{Kept, Sets, Takes, Retrieves, Begins, Passes, Calls, Answers}
+use Rattle.flow_points.specs.declared.flow.Passing.TheVariants.{Kept, Sets, Takes, Retrieves}
+use Rattle.flow_points.specs.declared.flow.Passing.TheVariants.{Begins, Passes, Calls, Answers}
 use Rattle.source_meaning.specs.Changes.{value_count}
 use Rattle.flow_points.specs.Places.{Place, StandsAt}
 use Rattle.flow_points.specs.Sources.{start_source, source_of}
 use Rattle.flow_points.specs.Flows.{LeadsTo}
-use Rattle.flow_points.specs.Facts.{Facts, fact, Reached, Guarded, SourceGives, FlowGives, PointGives, StartGives, Gives, IsDerivation, IsLeast, IsClosed, KnowsAlike, AnswersTo, ReachesAlike}
+use Rattle.flow_points.specs.Facts.{Facts, fact, Reached, Guarded, SourceGives, FlowGives}
+use Rattle.flow_points.specs.Facts.{PointGives, StartGives, Gives, IsDerivation, IsLeast, IsClosed}
+use Rattle.flow_points.specs.Facts.{KnowsAlike, AnswersTo, ReachesAlike}
 
 -- a flow looks at facts at its point
 
@@ -30,7 +34,8 @@ abbrev IsAnswer : Passing → Type 0
 IsAnswer (Answers values) = Unit {0}
 IsAnswer _ = ⊥
 
-guard_alike : (P Q : Facts) (e p q : ℕ) → KnowsAlike P Q e p → (how : Passing) → (IsAnswer how → Reached P e q → Reached Q e q) → Guarded P e p q how → Guarded Q e p q how
+guard_alike : (P Q : Facts) (e p q : ℕ) → KnowsAlike P Q e p → (how : Passing)
+    → (IsAnswer how → Reached P e q → Reached Q e q) → Guarded P e p q how → Guarded Q e p q how
 guard_alike P Q e p q h Kept r k = k
 guard_alike P Q e p q h (Sets temp s) r k = k
 guard_alike P Q e p q h (Takes temps) r k = k
@@ -40,7 +45,9 @@ guard_alike P Q e p q h (Passes count) r k = k
 guard_alike P Q e p q h (Calls values answer) r k = (k.0, k.1, h Depth (Const k.0) k.2)
 guard_alike P Q e p q h (Answers values) r k = r tt k
 
-flow_alike : (x : Exchange) (P Q : Facts) (at : Place) (how : Passing) (f : Fact) → KnowsAlike P Q f.entry at.point → (IsAnswer how → Reached P f.entry f.point → Reached Q f.entry f.point) → FlowGives x P at how f → FlowGives x Q at how f
+flow_alike : (x : Exchange) (P Q : Facts) (at : Place) (how : Passing) (f : Fact) → KnowsAlike P Q f.entry at.point
+    → (IsAnswer how → Reached P f.entry f.point → Reached Q f.entry f.point) → FlowGives x P at how f
+    → FlowGives x Q at how f
 flow_alike x P Q at how f h r g = record {
   leads = g.leads;
   reached = (g.reached.0, h Depth g.reached.0 g.reached.1);
@@ -53,12 +60,14 @@ answers_to : (x : Exchange) (p : ℕ) (at : Place) (q : ℕ) (how : Passing) →
 answers_to x p at q (Answers values) stands leads is = record { at = at; stands = stands; values = values; leads = leads }
 answers_to x p at q _ stands leads is = absurd is
 
-pub point_alike : (x : Exchange) (P Q : Facts) (p : ℕ) (f : Fact) → KnowsAlike P Q f.entry p → ReachesAlike x P Q f.entry p → PointGives x P p f → PointGives x Q p f
+pub point_alike : (x : Exchange) (P Q : Facts) (p : ℕ) (f : Fact) → KnowsAlike P Q f.entry p
+    → ReachesAlike x P Q f.entry p → PointGives x P p f → PointGives x Q p f
 point_alike x P Q p f h r g = record {
   at = g.at;
   stands = g.stands;
   how = g.how;
-  flow = flow_alike x P Q g.at g.how f (subst (λ n. KnowsAlike P Q f.entry n) (sym g.stands.here) h) (λ is. r f.point (answers_to x p g.at f.point g.how g.stands g.flow.leads is)) g.flow;
+  flow = flow_alike x P Q g.at g.how f (subst (λ n. KnowsAlike P Q f.entry n) (sym g.stands.here) h)
+      (λ is. r f.point (answers_to x p g.at f.point g.how g.stands g.flow.leads is)) g.flow;
 }
 
 -- what is given by facts is given by more of them
@@ -110,7 +119,8 @@ module _ (x : Exchange) where
   source_has : (e p : ℕ) (s : Source) (v : Value) → SourceGives (IsLeast x) e p s v → Has (λ fs. SourceGives (Contains fs) e p s v)
   source_has e p (Of s) v h = (let a = least_has (fact e p s v) h in record { list = a.list; derived = a.derived; holds = a.holds })
   source_has e p (Is w) v h = record { list = []; derived = tt; holds = h }
-  source_has e p Deeper v h = (let a = least_has (fact e p Depth (Const h.0)) h.3 in record { list = a.list; derived = a.derived; holds = (h.0, h.1, h.2, a.holds) })
+  source_has e p Deeper v h = (let a = least_has (fact e p Depth (Const h.0)) h.3 in record
+      { list = a.list; derived = a.derived; holds = (h.0, h.1, h.2, a.holds) })
   source_has e p Nothing v h = absurd h
 
   guard_has : (e p q : ℕ) (how : Passing) → Guarded (IsLeast x) e p q how → Has (λ fs. Guarded (Contains fs) e p q how)
@@ -120,7 +130,8 @@ module _ (x : Exchange) where
   guard_has e p q (Retrieves temps) h = record { list = []; derived = tt; holds = tt }
   guard_has e p q (Begins values) h = record { list = []; derived = tt; holds = tt }
   guard_has e p q (Passes count) h = record { list = []; derived = tt; holds = tt }
-  guard_has e p q (Calls values answer) h = (let a = least_has (fact e p Depth (Const h.0)) h.2 in record { list = a.list; derived = a.derived; holds = (h.0, h.1, a.holds) })
+  guard_has e p q (Calls values answer) h = (let a = least_has (fact e p Depth (Const h.0)) h.2 in record
+      { list = a.list; derived = a.derived; holds = (h.0, h.1, a.holds) })
   guard_has e p q (Answers values) h = (let a = least_has (fact e q Depth h.0) h.1 in record { list = a.list; derived = a.derived; holds = (h.0, a.holds) })
 
   start_closed : (f : Fact) → StartGives x (IsLeast x) f → IsLeast x f
@@ -138,8 +149,12 @@ module _ (x : Exchange) where
       let n = guard_has f.entry g.at.point f.point g.how w.guarded in
       let s = source_has f.entry g.at.point (source_of g.how f.slot) f.value w.gives in
       let fs : List Fact = r.list ++ (n.list ++ s.list) in
-      let in_n : (h : Fact) → Contains n.list h → Contains fs h = (λ h c. Contains-append_right r.list (n.list ++ s.list) h (Contains-append_left n.list s.list h c)) in
-      let in_s : (h : Fact) → Contains s.list h → Contains fs h = (λ h c. Contains-append_right r.list (n.list ++ s.list) h (Contains-append_right n.list s.list h c)) in
+      let in_n : (h : Fact) → Contains n.list h
+      → Contains fs h = (λ h c. Contains-append_right r.list (n.list ++ s.list) h
+      (Contains-append_left n.list s.list h c)) in
+      let in_s : (h : Fact) → Contains s.list h
+      → Contains fs h = (λ h c. Contains-append_right r.list (n.list ++ s.list) h
+      (Contains-append_right n.list s.list h c)) in
       record {
         before = fs;
         derived = (
@@ -152,9 +167,12 @@ module _ (x : Exchange) where
               flow = record {
                 leads = w.leads;
                 reached = (w.reached.0, Contains-append_left r.list (n.list ++ s.list) (fact f.entry g.at.point Depth w.reached.0) r.holds);
-                guarded = guard_alike (Contains n.list) (Contains fs) f.entry g.at.point f.point (λ s v. in_n (fact f.entry g.at.point s v)) g.how (λ is k. (k.0, in_n (fact f.entry f.point Depth k.0) k.1)) n.holds;
+                guarded = guard_alike (Contains n.list) (Contains fs) f.entry g.at.point f.point
+                    (λ s v. in_n (fact f.entry g.at.point s v)) g.how
+                    (λ is k. (k.0, in_n (fact f.entry f.point Depth k.0) k.1)) n.holds;
                 slot = w.slot;
-                gives = source_alike (Contains s.list) (Contains fs) f.entry g.at.point (λ s v. in_s (fact f.entry g.at.point s v)) (source_of g.how f.slot) f.value s.holds;
+                gives = source_alike (Contains s.list) (Contains fs) f.entry g.at.point
+                    (λ s v. in_s (fact f.entry g.at.point s v)) (source_of g.how f.slot) f.value s.holds;
               };
             },
           ),

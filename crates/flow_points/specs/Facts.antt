@@ -1,8 +1,9 @@
 -- Which facts follow from which: one rule for each flow and each slot, and the rule of the start.
 --
--- A rule looks at facts that are known, whichever these are. The least facts are those to which a list leads in which each fact
--- follows from facts before it. Facts are closed where all that follows from them is among them. A flow from a point looks
--- only at facts at that point, and for an answer at whether the RETRIEVE is reached.
+-- A rule looks at facts that are known, whichever these are. The least facts are those to which a
+-- list leads in which each fact follows from facts before it. Facts are closed where all that
+-- follows from them is among them. A flow from a point looks only at facts at that point, and for
+-- an answer at whether the RETRIEVE is reached.
 use Rattle.std.specs.Prelude.{◌≡◌, ◌⊎◌, ℕ, ◌+◌, ◌<◌, List, [], ◌∷◌, Contains, Some, slice_get}
 use Rattle.plex_limits.specs.declared.limits.TheConstants.{MOST_CALLERS}
 use Rattle.exchange_model.specs.declared.exchange.Exchange.{Exchange}
@@ -41,8 +42,8 @@ Reached P e p = (v : Value) × Known P e p Depth v
 abbrev pub HasRoomForCaller : Facts → ℕ → ℕ → Type 0
 HasRoomForCaller P e p = (c : ℕ) × (c < MOST_CALLERS) × Known P e p Depth (Const c)
 
--- what a flow asks for besides that its statement is reached: a call that one more caller may wait, an answer that the RETRIEVE
--- is reached
+-- what a flow asks for besides that its statement is reached: a call that one more caller may wait,
+-- an answer that the RETRIEVE is reached
 abbrev pub Guarded : Facts → ℕ → ℕ → ℕ → Passing → Type 0
 Guarded P e p q (Calls values answer) = HasRoomForCaller P e p
 Guarded P e p q (Answers values) = Reached P e q
@@ -52,11 +53,13 @@ Guarded P e p q _ = Unit {0}
 abbrev pub SourceGives : Facts → ℕ → ℕ → Source → Value → Type 0
 SourceGives P e p (Of s) v = Known P e p s v
 SourceGives P e p (Is w) v = v ≡ w
-SourceGives P e p Deeper v = (c : ℕ) × (c < MOST_CALLERS) × (v ≡ Const (c + 1)) × Known P e p Depth (Const c)
+SourceGives P e p Deeper v =
+    (c : ℕ) × (c < MOST_CALLERS) × (v ≡ Const (c + 1)) × Known P e p Depth (Const c)
 SourceGives P e p Nothing v = ⊥
 
 -- a flow gives the fact
-pub record FlowGives (x : Exchange) (P : Facts) (at : Place) (how : Passing) (f : Fact) : Type 0 where
+pub record FlowGives (x : Exchange) (P : Facts) (at : Place) (how : Passing) (f : Fact) : Type
+    0 where
   pub leads : LeadsTo x at f.point how
   pub reached : Reached P f.entry at.point
   pub guarded : Guarded P f.entry at.point f.point how
@@ -76,7 +79,8 @@ pub record StartGives (x : Exchange) (P : Facts) (f : Fact) : Type 0 where
   pub there : slice_get x.entries f.entry ≡ Some entry
   pub lands : f.point ≡ entry.point
   pub slot : HasSlot x f.point f.slot
-  pub gives : SourceGives P f.entry f.point (start_source (value_count x entry.signal) f.slot) f.value
+  pub gives : SourceGives P f.entry f.point (start_source (value_count x entry.signal) f.slot)
+      f.value
 
 -- one rule gives the fact
 abbrev pub Gives : Exchange → Facts → Fact → Type 0
@@ -107,6 +111,7 @@ pub record AnswersTo (x : Exchange) (p q : ℕ) : Type 0 where
   pub values : List Source
   pub leads : LeadsTo x at q (Answers values)
 
--- each RETRIEVE to which an answer flows from the point, and that is reached, is reached there as well
+-- each RETRIEVE to which an answer flows from the point, and that is reached, is reached there as
+-- well
 abbrev pub ReachesAlike : Exchange → Facts → Facts → ℕ → ℕ → Type 0
 ReachesAlike x P Q e p = (q : ℕ) → AnswersTo x p q → Reached P e q → Reached Q e q

@@ -1,9 +1,11 @@
--- The statements of an exchange, each where it stands: in which block, at which point, and before what.
+-- The statements of an exchange, each where it stands: in which block, at which point, and before
+-- what.
 --
--- The text is read as the meaning of a job reads it: statements inside others are statements of the text, what follows a
--- statement is the next one past ENTERs, the last statement of an ON is followed by the ON itself, and a label stands for the
--- first statement after it that is no ENTER.
-use Rattle.std.specs.Prelude.{◌≡◌, ℕ, Bool, true, false, List, ◌∷◌, drop, Option, Some, None, slice_get}
+-- The text is read as the meaning of a job reads it: statements inside others are statements of the
+-- text, what follows a statement is the next one past ENTERs, the last statement of an ON is
+-- followed by the ON itself, and a label stands for the first statement after it that is no ENTER.
+use Rattle.std.specs.Prelude.{◌≡◌, ℕ, Bool, true, false, List, ◌∷◌, drop, Option, Some, None}
+use Rattle.std.specs.Prelude.{slice_get}
 use Rattle.std.specs.Option.{option_map_or}
 use Rattle.exchange_model.specs.declared.exchange.Exchange.{Exchange}
 use Rattle.exchange_model.specs.declared.stmt.Receiver.{Receiver}
@@ -15,7 +17,8 @@ use Rattle.source_meaning.specs.Config.{body_of, label_of, is_receiver, from_sig
 use Rattle.source_meaning.specs.Named.{Layer}
 use Rattle.source_meaning.specs.Rests.{IsRow, first_point, head_point}
 
--- a statement by its block, its point, its layer, and the point of what follows it when nothing jumps
+-- a statement by its block, its point, its layer, and the point of what follows it when nothing
+-- jumps
 pub record Place : Type 0 where
   pub block : ℕ
   pub point : ℕ
@@ -50,7 +53,8 @@ enter_point x b signal = head_point (from_signal x b signal)
 abbrev pub receives : Exchange → ℕ → ℕ → Bool
 receives x signal b = option_map_or (is_receiver signal) (slice_get x.blocks b) false
 
--- a signal may go to the block: to the one that is named, and by a held reference to each that receives it
+-- a signal may go to the block: to the one that is named, and by a held reference to each that
+-- receives it
 abbrev pub MayReceive : Exchange → ℕ → Option Receiver → ℕ → Type 0
 MayReceive x signal None b = ⊥
 MayReceive x signal (Some (receiver.Block named)) b = b ≡ named

@@ -1,5 +1,6 @@
--- The slots before a point: one for each temporary of the block, as many entry values as the largest signal has that the block
--- receives, at a RETRIEVE the values of its answer, and how many callers wait and what the last of them awaits.
+-- The slots before a point: one for each temporary of the block, as many entry values as the
+-- largest signal has that the block receives, at a RETRIEVE the values of its answer, and how many
+-- callers wait and what the last of them awaits.
 use Rattle.std.specs.Prelude.{ℕ, ◌<◌, length, map, Option, slice_get}
 use Rattle.std.specs.Option.{option_map_or}
 use Rattle.exchange_model.specs.declared.exchange.Exchange.{Exchange}
@@ -17,7 +18,8 @@ abbrev pub temp_count : Exchange → ℕ → ℕ
 temp_count x b = option_map_or (λ (k : Block). length k.temporaries) (slice_get x.blocks b) 0
 
 abbrev pub given_count : Exchange → ℕ → ℕ
-given_count x b = option_map_or (λ (k : Block). most (map (λ (r : Row). value_count x r.signal) k.enters)) (slice_get x.blocks b) 0
+given_count x b = option_map_or (λ (k : Block). most
+    (map (λ (r : Row). value_count x r.signal) k.enters)) (slice_get x.blocks b) 0
 
 -- how many values the answer of a RETRIEVE has, and 0 of any other statement
 abbrev pub answer_count : Exchange → Option ℕ → ℕ

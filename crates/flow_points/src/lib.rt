@@ -1,8 +1,9 @@
 // What the analysis of an exchange begins with: facts, and the rules by which they flow.
 //
-// A fact is a value that a slot may have before a statement, in a job of an entry. The flow rules say which facts follow from
-// which; the least facts are those that follow from nothing. The definitions are over the exchange of `exchange_model` and over
-// the text as `source_meaning` reads it: a point, and what follows it there, are the same.
+// A fact is a value that a slot may have before a statement, in a job of an entry. The flow rules
+// say which facts follow from which; the least facts are those that follow from nothing. The
+// definitions are over the exchange of `exchange_model` and over the text as `source_meaning` reads
+// it: a point, and what follows it there, are the same.
 #![tactic(auto)]
 
 mod fact;

@@ -1,8 +1,11 @@
 -- The facts that a flow gives, slot by slot.
-use Rattle.std.proofs.Common.{◌≡◌, ◌⊎◌, Bool, true, false, not, nat_eq, Result, Ok, Err, OnOk, inl, inr, ⊎_elim, ℕ, ◌+◌, ◌<◌, ◌≤◌, List, [], ◌∷◌, ◌++◌, length, map, drop, get_or, refl, sym, ap, ◌∙◌, subst, arith, append-nil, append_assoc}
+use Rattle.std.proofs.Common.{◌≡◌, ◌⊎◌, Bool, true, false, not, nat_eq, Result, Ok, Err, OnOk, inl}
+use Rattle.std.proofs.Common.{inr, ⊎_elim, ℕ, ◌+◌, ◌<◌, ◌≤◌, List, [], ◌∷◌, ◌++◌, length, map, drop}
+use Rattle.std.proofs.Common.{get_or, refl, sym, ap, ◌∙◌, subst, arith, append-nil, append_assoc}
 use Rattle.std.proofs.Math.ListN.{drop_of_length-le}
 use Rattle.std.proofs.lemmas.Bool.{ne_eqb}
-use Rattle.std.proofs.lemmas.List.Elements.{Contains-append_left, Contains-append_right, Contains-append_cases}
+use Rattle.std.proofs.lemmas.List.Elements.{Contains-append_left, Contains-append_right}
+use Rattle.std.proofs.lemmas.List.Elements.{Contains-append_cases}
 use Rattle.std.specs.List.{Contains}
 use Rattle.std.specs.Prelude.{◌↔◌}
 use Rattle.std.proofs.lemmas.List.{get_or_default}
@@ -45,7 +48,9 @@ of_made e q s (u ∷ vs) v c =
 same_fact : (e q : ℕ) (s : Slot) (f : Fact) → f.entry ≡ e → f.point ≡ q → f.slot ≡ s → fact e q s f.value ≡ f
 same_fact e q s f ee qe se = (λ i. fact (sym ee i) (sym qe i) (sym se i) f.value)
 
-pub slot_given : (P : Facts) (e p : ℕ) (source : Source) (q : ℕ) (s : Slot) (values given : List Value) (old new : List Fact) → AreValues (SourceGives P e p source) values → given ≡ values → new ≡ old ++ map (fact e q s) given → HasGiven old new (SlotGives P e p source q s)
+pub slot_given : (P : Facts) (e p : ℕ) (source : Source) (q : ℕ) (s : Slot) (values given : List Value)
+    (old new : List Fact) → AreValues (SourceGives P e p source) values → given ≡ values
+    → new ≡ old ++ map (fact e q s) given → HasGiven old new (SlotGives P e p source q s)
 slot_given P e p source q s values given old new are same is = record {
   added = map (fact e q s) values;
   is = is ∙ ap (λ l. old ++ map (fact e q s) l) same;
@@ -57,7 +62,8 @@ slot_given P e p source q s values given old new are same is = record {
         slot = ap (λ (g : Fact). g.slot) (sym m.is);
         gives = subst (λ (g : Fact). SourceGives P e p source g.value) m.is (are.each m.value m.one);
       });
-  listed = λ f h. subst (Contains (map (fact e q s) values)) (same_fact e q s f h.entry h.point h.slot) (of_made e q s values f.value (are.listed f.value h.gives));
+  listed = λ f h. subst (Contains (map (fact e q s) values)) (same_fact e q s f h.entry h.point h.slot)
+      (of_made e q s values f.value (are.listed f.value h.gives));
 }
 
 -- slot by slot
@@ -69,17 +75,23 @@ pub record FlowGoes (P : Facts) (e p : ℕ) (how : Passing) (q : ℕ) (slots : L
   pub listed : (f : Fact) → SlotsGive P e p how q slots f → Contains added f ⊎ Contains (drop i slots) f.slot
 
 pub flow_begin : (P : Facts) (e p : ℕ) (how : Passing) (q : ℕ) (slots : List Slot) (old now : List Fact) → now ≡ old → FlowGoes P e p how q slots old 0 now
-flow_begin P e p how q slots old now same = record { added = []; is = same ∙ sym (append-nil old); each = λ f c. absurd (none_in f c); listed = λ f h. inr h.slot }
+flow_begin P e p how q slots old now same = record
+    { added = []; is = same ∙ sym (append-nil old); each = λ f c. absurd (none_in f c); listed = λ f h. inr h.slot }
 
 at_contained : {A : Type 0} (xs : List A) (i : ℕ) (x : A) → i < length xs → x ≡ get_or xs i x → Contains xs x
 at_contained xs i x lt is = (i, lt, sym is)
 
-pub flow_more : (P : Facts) (e p : ℕ) (how : Passing) (q : ℕ) (slots : List Slot) (i : ℕ) (s : Slot) (source : Source) (old now new : List Fact) → i < length slots → s ≡ get_or slots i s → source ≡ source_of how s → HasGiven now new (SlotGives P e p source q s) → FlowGoes P e p how q slots old i now → FlowGoes P e p how q slots old (i + 1) new
+pub flow_more : (P : Facts) (e p : ℕ) (how : Passing) (q : ℕ) (slots : List Slot) (i : ℕ) (s : Slot) (source : Source)
+    (old now new : List Fact) → i < length slots → s ≡ get_or slots i s → source ≡ source_of how s
+    → HasGiven now new (SlotGives P e p source q s) → FlowGoes P e p how q slots old i now
+    → FlowGoes P e p how q slots old (i + 1) new
 flow_more P e p how q slots i s source old now new lt is from h g = record {
   added = g.added ++ h.added;
   is = h.is ∙ ap (λ l. l ++ h.added) g.is ∙ append_assoc old g.added h.added;
   each = λ f c. ⊎_elim (g.each f) (λ at. one f (h.each f at)) (Contains-append_cases g.added h.added f c);
-  listed = λ f k. ⊎_elim (λ c. inl (Contains-append_left g.added h.added f c)) (λ c. later f k (first_or_later s f.slot (drop (i + 1) slots) (subst (λ l. Contains l f.slot) (opens slots i s lt is) c))) (g.listed f k);
+  listed = λ f k. ⊎_elim (λ c. inl (Contains-append_left g.added h.added f c))
+      (λ c. later f k (first_or_later s f.slot (drop (i + 1) slots)
+      (subst (λ l. Contains l f.slot) (opens slots i s lt is) c))) (g.listed f k);
 }
   where
     one : (f : Fact) → SlotGives P e p source q s f → SlotsGive P e p how q slots f
@@ -90,7 +102,8 @@ flow_more P e p how q slots i s source old now new lt is from h g = record {
       gives = subst (λ t. SourceGives P e p (source_of how t) f.value) (sym k.slot) (subst (λ o. SourceGives P e p o f.value) from k.gives);
     }
 
-    later : (f : Fact) → SlotsGive P e p how q slots f → (s ≡ f.slot) ⊎ Contains (drop (i + 1) slots) f.slot → Contains (g.added ++ h.added) f ⊎ Contains (drop (i + 1) slots) f.slot
+    later : (f : Fact) → SlotsGive P e p how q slots f → (s ≡ f.slot) ⊎ Contains (drop (i + 1) slots) f.slot
+        → Contains (g.added ++ h.added) f ⊎ Contains (drop (i + 1) slots) f.slot
     later f k (inl same) = inl (Contains-append_right g.added h.added f (h.listed f (record {
       entry = k.entry;
       point = k.point;
@@ -99,7 +112,8 @@ flow_more P e p how q slots i s source old now new lt is from h g = record {
     })))
     later f k (inr c) = inr c
 
-pub flow_end : (P : Facts) (e p : ℕ) (how : Passing) (q : ℕ) (slots : List Slot) (i : ℕ) (old now : List Fact) → length slots ≤ i → FlowGoes P e p how q slots old i now → HasGiven old now (SlotsGive P e p how q slots)
+pub flow_end : (P : Facts) (e p : ℕ) (how : Passing) (q : ℕ) (slots : List Slot) (i : ℕ) (old now : List Fact)
+    → length slots ≤ i → FlowGoes P e p how q slots old i now → HasGiven old now (SlotsGive P e p how q slots)
 flow_end P e p how q slots i old now past g = record {
   added = g.added;
   is = g.is;
@@ -114,7 +128,9 @@ on_ok_as (Err e) A B f h = h
 
 -- guards
 
-pub guard_calls : (P : Facts) (e p q : ℕ) (how : Passing) (values : List Source) (answer : ℕ) (vs : List Value) (b : Bool) → how ≡ Calls values answer → AreValues (SourceGives P e p Deeper) vs → b ≡ not (nat_eq (length vs) 0) → (b ≡ true) ↔ Guarded P e p q how
+pub guard_calls : (P : Facts) (e p q : ℕ) (how : Passing) (values : List Source) (answer : ℕ) (vs : List Value)
+    (b : Bool) → how ≡ Calls values answer → AreValues (SourceGives P e p Deeper) vs → b ≡ not (nat_eq (length vs) 0)
+    → (b ≡ true) ↔ Guarded P e p q how
 guard_calls P e p q how values answer vs b is are test = subst (λ h. (b ≡ true) ↔ Guarded P e p q h) (sym is) (there vs are test, back vs are test)
   where
     there : (vs : List Value) → AreValues (SourceGives P e p Deeper) vs → b ≡ not (nat_eq (length vs) 0) → b ≡ true → HasRoomForCaller P e p
@@ -125,8 +141,13 @@ guard_calls P e p q how values answer vs b is are test = subst (λ h. (b ≡ tru
     back [] are test h = absurd (none_in (Const (h.0 + 1)) (are.listed (Const (h.0 + 1)) (h.0, h.1, refl, h.2)))
     back (v ∷ vs) are test h = test ∙ ap not (ne_eqb (length (v ∷ vs)) 0 (λ e. let none = e in omega arith))
 
-pub guard_answers : (P : Facts) (e p q : ℕ) (how : Passing) (values : List Source) (b : Bool) → how ≡ Answers values → (b ≡ true) ↔ Reached P e q → (b ≡ true) ↔ Guarded P e p q how
+pub guard_answers : (P : Facts) (e p q : ℕ) (how : Passing) (values : List Source) (b : Bool) → how ≡ Answers values
+    → (b ≡ true) ↔ Reached P e q → (b ≡ true) ↔ Guarded P e p q how
 guard_answers P e p q how values b is h = subst (λ o. (b ≡ true) ↔ Guarded P e p q o) (sym is) h
 
-pub flow_item : (P : Facts) (e p : ℕ) (how : Passing) (q : ℕ) (slots : List Slot) (i : ℕ) (d : Slot) (source : Source) (old now new : List Fact) → i < length slots → source ≡ source_of how (get_or slots i d) → HasGiven now new (SlotGives P e p source q (get_or slots i d)) → FlowGoes P e p how q slots old i now → FlowGoes P e p how q slots old (i + 1) new
-flow_item P e p how q slots i d source old now new lt from h g = flow_more P e p how q slots i (get_or slots i d) source old now new lt (get_or_default slots i d (get_or slots i d) lt) from h g
+pub flow_item : (P : Facts) (e p : ℕ) (how : Passing) (q : ℕ) (slots : List Slot) (i : ℕ) (d : Slot) (source : Source)
+    (old now new : List Fact) → i < length slots → source ≡ source_of how (get_or slots i d)
+    → HasGiven now new (SlotGives P e p source q (get_or slots i d)) → FlowGoes P e p how q slots old i now
+    → FlowGoes P e p how q slots old (i + 1) new
+flow_item P e p how q slots i d source old now new lt from h g = flow_more P e p how q slots i (get_or slots i d) source
+    old now new lt (get_or_default slots i d (get_or slots i d) lt) from h g

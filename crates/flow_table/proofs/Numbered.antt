@@ -1,5 +1,6 @@
 -- What is walked stands at its point.
-use Rattle.std.proofs.Common.{◌≡◌, ℕ, zero, suc, ◌+◌, List, [], ◌∷◌, ◌++◌, length, map, Option, Some, None, slice_get, refl, sym, ap, ◌∙◌, subst, arith}
+use Rattle.std.proofs.Common.{◌≡◌, ℕ, zero, suc, ◌+◌, List, [], ◌∷◌, ◌++◌, length, map, Option}
+use Rattle.std.proofs.Common.{Some, None, slice_get, refl, sym, ap, ◌∙◌, subst, arith}
 use Rattle.std.proofs.lemmas.List.{length-map, map-append}
 use Rattle.std.proofs.lemmas.List.FromFn.{length-range_with_len}
 use Rattle.std.proofs.lemmas.Option.{none-some, same_Some}
@@ -19,7 +20,9 @@ use Rattle.source_meaning.specs.Rests.{first_point}
 use Rattle.source_meaning.proofs.Lists.{all_contained}
 use Rattle.source_meaning.proofs.Points.{points_many}
 use Rattle.flow_points.specs.Places.{Place, IsPlace, StandsAt}
-use Rattle.flow_table.specs.Texts.{HoldsNone, Walked, nothing_left, statement, Chosen, no_choice, choice, Inside, of_none, of_if, of_case, of_on, Texts, no_block, block, ArePlaces}
+use Rattle.flow_table.specs.Texts.{HoldsNone, Walked, nothing_left, statement, Chosen, no_choice}
+use Rattle.flow_table.specs.Texts.{choice, Inside, of_none, of_if, of_case, of_on, Texts, no_block}
+use Rattle.flow_table.specs.Texts.{block, ArePlaces}
 use Rattle.flow_table.proofs.Standing.{texts_stand}
 use Rattle.flow_table.proofs.Finding.{place_found}
 
@@ -30,7 +33,8 @@ abbrev numbers : List PointLine → List ℕ
 numbers ss = map (λ (s : PointLine). s.point) ss
 
 two : (ps qs : List Place) (ss ts : List PointLine) → points ps ≡ numbers ss → points qs ≡ numbers ts → points (ps ++ qs) ≡ numbers (ss ++ ts)
-two ps qs ss ts e f = map-append (λ (p : Place). p.point) ps qs ∙ ap (λ l. l ++ points qs) e ∙ ap (λ l. numbers ss ++ l) f ∙ sym (map-append (λ (s : PointLine). s.point) ss ts)
+two ps qs ss ts e f = map-append (λ (p : Place). p.point) ps qs ∙ ap (λ l. l ++ points qs) e
+    ∙ ap (λ l. numbers ss ++ l) f ∙ sym (map-append (λ (s : PointLine). s.point) ss ts)
 
 none_spots : (l : Layer) → HoldsNone l → [] ≡ numbers (parts_spots l)
 none_spots (stmt.If cond yes_part no_part) none = absurd none
@@ -42,28 +46,35 @@ mutual
   walked_points : (b : ℕ) (list : List Stmt) (end : Option ℕ) (ps : List Place) → Walked b list end ps → points ps ≡ numbers (spots list)
   walked_points b list end ps (nothing_left e) = refl
   walked_points b list end ps (statement s rest e inner more i w) =
-      let here : points inner ≡ numbers (inner_spots s.kind) = inside_points b s.point (first_point rest e) (out-StmtKind s.kind) inner i ∙ sym (ap numbers (inner_spots-out s.kind)) in
+      let here : points inner ≡ numbers (inner_spots s.kind) = inside_points b s.point (first_point rest e)
+      (out-StmtKind s.kind) inner i ∙ sym (ap numbers (inner_spots-out s.kind)) in
       ap (λ l. s.point ∷ l) (two inner more (inner_spots s.kind) (spots rest) here (walked_points b rest e more w))
 
   chosen_points : (b : ℕ) (next : Option ℕ) (whens : List When) (ps : List Place) → Chosen b next whens ps → points ps ≡ numbers (joined (map when_spots whens))
   chosen_points b next whens ps no_choice = refl
-  chosen_points b next whens ps (choice w rest qs rs v u) = two qs rs (when_spots w) (joined (map when_spots rest)) (walked_points b (out-When w).body next qs v) (chosen_points b next rest rs u)
+  chosen_points b next whens ps (choice w rest qs rs v u) = two qs rs (when_spots w) (joined (map when_spots rest))
+      (walked_points b (out-When w).body next qs v) (chosen_points b next rest rs u)
 
   inside_points : (b p : ℕ) (next : Option ℕ) (l : Layer) (ps : List Place) → Inside b p next l ps → points ps ≡ numbers (parts_spots l)
   inside_points b p next l ps (of_none m none) = none_spots m none
-  inside_points b p next l ps (of_if cond yes_part no_part qs rs v w) = two qs rs (spots yes_part) (spots no_part) (walked_points b yes_part next qs v) (walked_points b no_part next rs w)
-  inside_points b p next l ps (of_case value whens otherwise qs rs v w) = two qs rs (joined (map when_spots whens)) (spots otherwise) (chosen_points b next whens qs v) (walked_points b otherwise next rs w)
+  inside_points b p next l ps (of_if cond yes_part no_part qs rs v w) = two qs rs (spots yes_part) (spots no_part)
+      (walked_points b yes_part next qs v) (walked_points b no_part next rs w)
+  inside_points b p next l ps (of_case value whens otherwise qs rs v w) = two qs rs (joined (map when_spots whens))
+      (spots otherwise) (chosen_points b next whens qs v) (walked_points b otherwise next rs w)
   inside_points b p next l ps (of_on temp from upto body qs w) = walked_points b body (Some p) qs w
 
 texts_points : (b : ℕ) (blocks : List Block) (ps : List Place) → Texts b blocks ps → points ps ≡ numbers (all_spots blocks)
 texts_points b blocks ps (no_block c) = refl
-texts_points b blocks ps (block c k rest qs rs w t) = two qs rs (spots k.body) (all_spots rest) (walked_points b k.body None qs w) (texts_points (b + 1) rest rs t)
+texts_points b blocks ps (block c k rest qs rs w t) = two qs rs (spots k.body) (all_spots rest)
+    (walked_points b k.body None qs w) (texts_points (b + 1) rest rs t)
 
 -- places whose points count from a number on
 counted_at : (n a : ℕ) (ps : List Place) → points ps ≡ range_with_len a n → (i : ℕ) (p : Place) → slice_get ps i ≡ Some p → p.point ≡ a + i
 counted_at n a [] e i p there = absurd (none-some p there)
 counted_at zero a (q ∷ ps) e i p there = absurd (let long : length (points (q ∷ ps)) ≡ length (range_with_len a zero) = ap length e in omega arith)
-counted_at (suc n) a (q ∷ ps) e zero p there = (let is : q.point ≡ a = heads q.point a (points ps) (range_with_len (a + 1) n) e in subst (λ (r : Place). r.point ≡ a + 0) (same_Some q p there) (omega arith))
+counted_at (suc n) a (q ∷ ps) e zero p there = (let is : q.point
+    ≡ a = heads q.point a (points ps) (range_with_len (a + 1) n) e in subst (λ (r : Place). r.point ≡ a + 0)
+    (same_Some q p there) (omega arith))
   where
     heads : (u v : ℕ) (us vs : List ℕ) → u ∷ us ≡ v ∷ vs → u ≡ v
     heads u v us vs e = cc

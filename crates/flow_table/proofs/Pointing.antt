@@ -1,11 +1,16 @@
 -- Lists of points, one for each answer, statement by statement.
-use Rattle.std.proofs.Common.{◌≡◌, ◌≢◌, ◌⊎◌, inl, inr, ⊎_elim, ℕ, zero, suc, ◌+◌, ◌<◌, ◌≤◌, Bool, true, false, nat_eq, List, [], ◌∷◌, ◌++◌, length, map, drop, get_or, replicate, Option, Some, None, slice_get, slice_set, refl, sym, ap, ◌∙◌, subst, arith}
+use Rattle.std.proofs.Common.{◌≡◌, ◌≢◌, ◌⊎◌, inl, inr, ⊎_elim, ℕ, zero, suc, ◌+◌, ◌<◌, ◌≤◌, Bool}
+use Rattle.std.proofs.Common.{true, false, nat_eq, List, [], ◌∷◌, ◌++◌, length, map, drop, get_or}
+use Rattle.std.proofs.Common.{replicate, Option, Some, None, slice_get, slice_set, refl, sym, ap}
+use Rattle.std.proofs.Common.{◌∙◌, subst, arith}
 use Rattle.std.specs.Prelude.{◌↔◌}
 use Rattle.std.specs.List.{Contains}
 use Rattle.std.proofs.Math.ListN.{drop_of_length-le}
 use Rattle.std.proofs.lemmas.Bool.{eqb-true, eqb-false, cases_lt}
-use Rattle.std.proofs.lemmas.List.{get_or-set_same, get_or-set_other, length-replicate, length-set, replicate_more, set_past, get_or_default}
-use Rattle.std.proofs.lemmas.List.Elements.{Contains-append_left, Contains-push, Contains-push_cases}
+use Rattle.std.proofs.lemmas.List.{get_or-set_same, get_or-set_other, length-replicate, length-set}
+use Rattle.std.proofs.lemmas.List.{replicate_more, set_past, get_or_default}
+use Rattle.std.proofs.lemmas.List.Elements.{Contains-append_left, Contains-push}
+use Rattle.std.proofs.lemmas.List.Elements.{Contains-push_cases}
 use Rattle.std.proofs.lemmas.Option.{none-some, same_Some}
 use Rattle.plex_num.proofs.Members.{first_or_later, none_in}
 use Rattle.plex_num.proofs.Lists.{opens}
@@ -13,7 +18,8 @@ use Rattle.exchange_model.specs.declared.exchange.Exchange.{Exchange}
 use Rattle.source_meaning.specs.Named.{Layer}
 use Rattle.flow_points.specs.Places.{Place, IsRetrieveAt}
 use Rattle.flow_table.specs.declared.place.PlaceAt.{PlaceAt}
-use Rattle.flow_table.specs.PointLists.{ArePointLists, IsOfAnswer, answer_by, retrieved_by, listed_at, put}
+use Rattle.flow_table.specs.PointLists.{ArePointLists, IsOfAnswer, answer_by, retrieved_by}
+use Rattle.flow_table.specs.PointLists.{listed_at, put}
 use Rattle.flow_table.specs.Rows.{AreAllRetrieves}
 use Rattle.flow_table.specs.Texts.{ArePlaces, seen}
 use Rattle.flow_table.proofs.Rowing.{place_at, placed_from}
@@ -23,13 +29,16 @@ use Rattle.flow_table.proofs.Rowing.{place_at, placed_from}
 pub put_past : (i point : ℕ) (lists : List (List ℕ)) → length lists ≤ i → lists ≡ put i point lists
 put_past i point lists past = sym (set_past lists i (get_or lists i [] ++ point ∷ []) past)
 
-pub put_at : (i point : ℕ) (lists new : List (List ℕ)) (before after : List ℕ) → i < length lists → before ≡ get_or lists i before → after ≡ before ++ point ∷ [] → new ≡ slice_set lists i after → new ≡ put i point lists
+pub put_at : (i point : ℕ) (lists new : List (List ℕ)) (before after : List ℕ) → i < length lists
+    → before ≡ get_or lists i before → after ≡ before ++ point ∷ [] → new ≡ slice_set lists i after
+    → new ≡ put i point lists
 put_at i point lists new before after lt is pushed made =
     made ∙ ap (λ l. slice_set lists i l) (pushed ∙ ap (λ l. l ++ point ∷ []) (is ∙ get_or_default lists i before [] lt))
 
 -- so many of one item
 
-pub items_more : {A : Type 0} (n : ℕ) (empty item : A) (now new : List A) → item ≡ empty → new ≡ now ++ item ∷ [] → now ≡ replicate n empty → new ≡ replicate (n + 1) empty
+pub items_more : {A : Type 0} (n : ℕ) (empty item : A) (now new : List A) → item ≡ empty → new ≡ now ++ item ∷ []
+    → now ≡ replicate n empty → new ≡ replicate (n + 1) empty
 items_more n empty item now new none pushed is = pushed ∙ ap (λ l. l ++ item ∷ []) is ∙ ap (λ i. replicate n empty ++ i ∷ []) none ∙ replicate_more n empty
 
 pub items_end : {A : Type 0} (n count : ℕ) (empty : A) (now : List A) → n ≤ count → count ≤ n → now ≡ replicate n empty → now ≡ replicate count empty
@@ -73,21 +82,27 @@ module _ (of : Layer → Option ℕ) where
     listed = λ m p lt h. inr h;
   }
 
-  later_among : (m : ℕ) (places : List PlaceAt) (i : ℕ) (at : PlaceAt) (p : ℕ) → i < length places → at ≡ get_or places i at → Among of m (drop i places) p → ((answer_by of at ≡ Some m) × (at.point ≡ p)) ⊎ Among of m (drop (i + 1) places) p
+  later_among : (m : ℕ) (places : List PlaceAt) (i : ℕ) (at : PlaceAt) (p : ℕ) → i < length places
+      → at ≡ get_or places i at → Among of m (drop i places) p
+      → ((answer_by of at ≡ Some m) × (at.point ≡ p)) ⊎ Among of m (drop (i + 1) places) p
   later_among m places i at p lt is h =
       ⊎_elim
       (λ e. inl (subst (λ (a : PlaceAt). answer_by of a ≡ Some m) (sym e) h.has, ap (λ (a : PlaceAt). a.point) e ∙ h.point))
       (λ c. inr (record { at = h.at; one = c; has = h.has; point = h.point }))
       (first_or_later at h.at (drop (i + 1) places) (subst (λ l. Contains l h.at) (opens places i at lt is) h.one))
 
-  lists_none : (n : ℕ) (places : List PlaceAt) (i : ℕ) (at : PlaceAt) (now : List (List ℕ)) → i < length places → at ≡ get_or places i at → answer_by of at ≡ None → ListsGo of n places i now → ListsGo of n places (i + 1) now
+  lists_none : (n : ℕ) (places : List PlaceAt) (i : ℕ) (at : PlaceAt) (now : List (List ℕ)) → i < length places
+      → at ≡ get_or places i at → answer_by of at ≡ None → ListsGo of n places i now → ListsGo of n places (i + 1) now
   lists_none n places i at now lt is none g = record {
     long = g.long;
     each = g.each;
-    listed = λ m p below h. ⊎_elim inl (λ l. ⊎_elim (λ f. absurd (none-some m (sym none ∙ f.0))) inr (later_among m places i at p lt is l)) (g.listed m p below h);
+    listed = λ m p below h. ⊎_elim inl (λ l. ⊎_elim (λ f. absurd (none-some m (sym none ∙ f.0))) inr
+        (later_among m places i at p lt is l)) (g.listed m p below h);
   }
 
-  lists_some : (n : ℕ) (places : List PlaceAt) (i : ℕ) (at : PlaceAt) (answer : ℕ) (now : List (List ℕ)) → i < length places → at ≡ get_or places i at → answer_by of at ≡ Some answer → ListsGo of n places i now → ListsGo of n places (i + 1) (put answer at.point now)
+  lists_some : (n : ℕ) (places : List PlaceAt) (i : ℕ) (at : PlaceAt) (answer : ℕ) (now : List (List ℕ))
+      → i < length places → at ≡ get_or places i at → answer_by of at ≡ Some answer → ListsGo of n places i now
+      → ListsGo of n places (i + 1) (put answer at.point now)
   lists_some n places i at answer now lt is some g = record {
     long = length-set now answer (get_or now answer [] ++ at.point ∷ []) ∙ g.long;
     each = λ m p c. each m p (nat_eq m answer) refl c;
@@ -98,7 +113,8 @@ module _ (of : Layer → Option ℕ) where
       new = put answer at.point now
 
       same : (m : ℕ) → m < length now → m ≡ answer → get_or new m [] ≡ get_or now m [] ++ at.point ∷ []
-      same m below e = subst (λ k. get_or (put k at.point now) m [] ≡ get_or now m [] ++ at.point ∷ []) e (get_or-set_same now m (get_or now m [] ++ at.point ∷ []) [] below)
+      same m below e = subst (λ k. get_or (put k at.point now) m [] ≡ get_or now m [] ++ at.point ∷ []) e
+          (get_or-set_same now m (get_or now m [] ++ at.point ∷ []) [] below)
 
       other : (m : ℕ) → m ≢ answer → get_or new m [] ≡ get_or now m []
       other m differ = get_or-set_other now answer m (get_or now answer [] ++ at.point ∷ []) [] differ
@@ -110,37 +126,50 @@ module _ (of : Layer → Option ℕ) where
       past m high = get_past new m (let e = length-set now answer (get_or now answer [] ++ at.point ∷ []) in omega (arith, e, high)) ∙ sym (get_past now m high)
 
       low_or_high : (m p : ℕ) → m ≡ answer → Contains (get_or new m []) p → (m < length now) ⊎ (length now ≤ m) → Among of m places p
-      low_or_high m p e c (inl low) = ⊎_elim (g.each m p) (own m p e) (Contains-push_cases (get_or now m []) at.point p (subst (λ l. Contains l p) (same m low e) c))
+      low_or_high m p e c (inl low) = ⊎_elim (g.each m p) (own m p e)
+          (Contains-push_cases (get_or now m []) at.point p (subst (λ l. Contains l p) (same m low e) c))
       low_or_high m p e c (inr high) = g.each m p (subst (λ l. Contains l p) (past m high) c)
 
       each : (m p : ℕ) (t : Bool) → nat_eq m answer ≡ t → Contains (get_or new m []) p → Among of m places p
       each m p false differ c = g.each m p (subst (λ l. Contains l p) (other m (eqb-false m answer differ)) c)
       each m p true eq c = low_or_high m p (eqb-true m answer eq) c (cases_lt m (length now))
 
-      listed : (m p : ℕ) → m < n → (t : Bool) → nat_eq m answer ≡ t → Contains (get_or now m []) p ⊎ Among of m (drop i places) p → Contains (get_or new m []) p ⊎ Among of m (drop (i + 1) places) p
+      listed : (m p : ℕ) → m < n → (t : Bool) → nat_eq m answer ≡ t
+          → Contains (get_or now m []) p ⊎ Among of m (drop i places) p
+          → Contains (get_or new m []) p ⊎ Among of m (drop (i + 1) places) p
       listed m p low false differ (inl c) = inl (subst (λ l. Contains l p) (sym (other m (eqb-false m answer differ))) c)
-      listed m p low false differ (inr l) = ⊎_elim (λ f. absurd (eqb-false m answer differ (same_Some m answer (sym f.0 ∙ some)))) inr (later_among m places i at p lt is l)
+      listed m p low false differ (inr l) = ⊎_elim
+          (λ f. absurd (eqb-false m answer differ (same_Some m answer (sym f.0 ∙ some)))) inr
+          (later_among m places i at p lt is l)
       listed m p low true eq (inl c) =
           let long = g.long in
-          inl (subst (λ l. Contains l p) (sym (same m (omega (arith, low, long)) (eqb-true m answer eq))) (Contains-append_left (get_or now m []) (at.point ∷ []) p c))
+          inl (subst (λ l. Contains l p) (sym (same m (omega (arith, low, long)) (eqb-true m answer eq)))
+          (Contains-append_left (get_or now m []) (at.point ∷ []) p c))
       listed m p low true eq (inr l) =
           let long = g.long in
           ⊎_elim
-          (λ f. inl (subst (λ z. Contains z p) (sym (same m (omega (arith, low, long)) (eqb-true m answer eq))) (subst (λ k. Contains (get_or now m [] ++ k ∷ []) p) (sym f.1) (Contains-push (get_or now m []) p))))
+          (λ f. inl (subst (λ z. Contains z p) (sym (same m (omega (arith, low, long)) (eqb-true m answer eq)))
+          (subst (λ k. Contains (get_or now m [] ++ k ∷ []) p) (sym f.1) (Contains-push (get_or now m []) p))))
           inr
           (later_among m places i at p lt is l)
 
-  pub lists_more : (n : ℕ) (places : List PlaceAt) (i : ℕ) (at : PlaceAt) (now new : List (List ℕ)) → i < length places → at ≡ get_or places i at → new ≡ listed_at (answer_by of at) at.point now → ListsGo of n places i now → ListsGo of n places (i + 1) new
+  pub lists_more : (n : ℕ) (places : List PlaceAt) (i : ℕ) (at : PlaceAt) (now new : List (List ℕ)) → i < length places
+      → at ≡ get_or places i at → new ≡ listed_at (answer_by of at) at.point now → ListsGo of n places i now
+      → ListsGo of n places (i + 1) new
   lists_more n places i at now new lt is e g = by (answer_by of at) refl e
     where
       by : (o : Option ℕ) → answer_by of at ≡ o → new ≡ listed_at o at.point now → ListsGo of n places (i + 1) new
       by None none f = subst (ListsGo of n places (i + 1)) (sym f) (lists_none n places i at now lt is none g)
       by (Some answer) some f = subst (ListsGo of n places (i + 1)) (sym f) (lists_some n places i at answer now lt is some g)
 
-  pub lists_end : (x : Exchange) (n : ℕ) (places : List PlaceAt) (i : ℕ) (now lists : List (List ℕ)) → ArePlaces x (map seen places) → n ≡ length x.signals → length places ≤ i → lists ≡ now → ListsGo of n places i now → ArePointLists of x lists
+  pub lists_end : (x : Exchange) (n : ℕ) (places : List PlaceAt) (i : ℕ) (now lists : List (List ℕ))
+      → ArePlaces x (map seen places) → n ≡ length x.signals → length places ≤ i → lists ≡ now
+      → ListsGo of n places i now → ArePointLists of x lists
   lists_end x n places i now lists are count past same g = subst (ArePointLists of x) (sym same) (record {
     each_signal = g.long ∙ count;
-    exact = λ answer points there. (let f = found_at now answer points [] there in let long = g.long in λ p. subst (λ l. Contains l p ↔ IsOfAnswer of x p answer) (sym f.1) (from answer p, to answer p (let lt = f.0 in omega (arith, lt, long))));
+    exact = λ answer points there. (let f = found_at now answer points [] there in let long = g.long in λ p. subst
+        (λ l. Contains l p ↔ IsOfAnswer of x p answer) (sym f.1)
+        (from answer p, to answer p (let lt = f.0 in omega (arith, lt, long))));
   })
     where
       from : (m p : ℕ) → Contains (get_or now m []) p → IsOfAnswer of x p m

@@ -1,8 +1,11 @@
 -- One caller more, and what comes from a source.
-use Rattle.std.proofs.Common.{◌≡◌, ⊎_elim, ℕ, ◌+◌, ◌<◌, ◌≤◌, Bool, true, false, nat_lt, if◌then◌else◌, List, [], ◌∷◌, ◌++◌, length, drop, get_or, Result, IfOk, Ok, Err, refl, sym, ap, ◌∙◌, subst, append-nil, append_assoc}
+use Rattle.std.proofs.Common.{◌≡◌, ⊎_elim, ℕ, ◌+◌, ◌<◌, ◌≤◌, Bool, true, false, nat_lt}
+use Rattle.std.proofs.Common.{if◌then◌else◌, List, [], ◌∷◌, ◌++◌, length, drop, get_or, Result}
+use Rattle.std.proofs.Common.{IfOk, Ok, Err, refl, sym, ap, ◌∙◌, subst, append-nil, append_assoc}
 use Rattle.std.proofs.Math.ListN.{drop_of_length-le}
 use Rattle.std.proofs.lemmas.Bool.{ltb-true, lt-ltb, le-ltb}
-use Rattle.std.proofs.lemmas.List.Elements.{Contains-append_left, Contains-append_right, Contains-append_cases}
+use Rattle.std.proofs.lemmas.List.Elements.{Contains-append_left, Contains-append_right}
+use Rattle.std.proofs.lemmas.List.Elements.{Contains-append_cases}
 use Rattle.std.specs.List.{Contains}
 use Rattle.plex_limits.specs.declared.limits.TheConstants.{MOST_CALLERS}
 use Rattle.plex_num.specs.declared.seq.Memory.{Memory}
@@ -18,9 +21,12 @@ use Rattle.flow_table.specs.Giving.{AreValues, raised_one, raised}
 pub raised_begin : (depths : List Value) (now : List Value) → now ≡ [] → now ++ raised depths ≡ raised depths
 raised_begin depths now none = ap (λ l. l ++ raised depths) none
 
-pub raised_more : (depths : List Value) (i : ℕ) (v : Value) (now new all : List Value) → i < length depths → v ≡ get_or depths i v → new ≡ now ++ raised_one v → now ++ raised (drop i depths) ≡ all → new ++ raised (drop (i + 1) depths) ≡ all
+pub raised_more : (depths : List Value) (i : ℕ) (v : Value) (now new all : List Value) → i < length depths
+    → v ≡ get_or depths i v → new ≡ now ++ raised_one v → now ++ raised (drop i depths) ≡ all
+    → new ++ raised (drop (i + 1) depths) ≡ all
 raised_more depths i v now new all lt is e h =
-    ap (λ l. l ++ raised (drop (i + 1) depths)) e ∙ append_assoc now (raised_one v) (raised (drop (i + 1) depths)) ∙ ap (λ l. now ++ raised l) (sym (opens depths i v lt is)) ∙ h
+    ap (λ l. l ++ raised (drop (i + 1) depths)) e ∙ append_assoc now (raised_one v) (raised (drop (i + 1) depths))
+    ∙ ap (λ l. now ++ raised l) (sym (opens depths i v lt is)) ∙ h
 
 pub raised_end : (depths : List Value) (i : ℕ) (now all : List Value) → length depths ≤ i → now ++ raised (drop i depths) ≡ all → now ≡ all
 raised_end depths i now all past h = sym (append-nil now) ∙ sym (ap (λ l. now ++ raised l) (drop_of_length-le depths past)) ∙ h
@@ -53,7 +59,8 @@ one_in (Arg k) v h = absurd (none_in v h)
 one_in Any v h = absurd (none_in v h)
 one_in (Const c) v h = by (nat_lt c MOST_CALLERS) refl h
   where
-    by : (t : Bool) → nat_lt c MOST_CALLERS ≡ t → Contains (if t then Const (c + 1) ∷ [] else []) v → (d : ℕ) × (d < MOST_CALLERS) × (v ≡ Const (d + 1)) × (Const c ≡ Const d)
+    by : (t : Bool) → nat_lt c MOST_CALLERS ≡ t → Contains (if t then Const (c + 1) ∷ [] else []) v
+        → (d : ℕ) × (d < MOST_CALLERS) × (v ≡ Const (d + 1)) × (Const c ≡ Const d)
     by true lt at = (c, ltb-true c MOST_CALLERS lt, ⊎_elim (λ same. sym same) (λ none. absurd (none_in v none)) (first_or_later (Const (c + 1)) v [] at), refl)
     by false lt at = absurd (none_in v at)
 
@@ -76,7 +83,8 @@ raised_listed (u ∷ us) c lt h =
     (λ later. Contains-append_right (raised_one u) (raised us) (Const (c + 1)) (raised_listed us c lt later))
     (first_or_later u (Const c) us h)
 
-pub deeper_values : (P : Facts) (e p : ℕ) (depths vs : List Value) → AreValues (λ v. P (fact e p Depth v)) depths → vs ≡ raised depths → AreValues (SourceGives P e p Deeper) vs
+pub deeper_values : (P : Facts) (e p : ℕ) (depths vs : List Value) → AreValues (λ v. P (fact e p Depth v)) depths
+    → vs ≡ raised depths → AreValues (SourceGives P e p Deeper) vs
 deeper_values P e p depths vs are is = record {
   each = λ v c. (let r = raised_each depths v (subst (λ l. Contains l v) is c) in (r.0, r.1, r.2, are.each (Const r.0) r.3));
   listed = λ v h. subst (λ l. Contains l v) (sym is) (subst (Contains (raised depths)) (sym h.2) (raised_listed depths h.0 h.1 (are.listed (Const h.0) h.3)));

@@ -1,5 +1,7 @@
 -- The rows of the table, step by step.
-use Rattle.std.proofs.Common.{◌≡◌, ℕ, zero, suc, ◌+◌, ◌<◌, ◌≤◌, List, [], ◌∷◌, ◌++◌, length, map, drop, get_or, Option, Some, None, slice_get, refl, sym, ap, ◌∙◌, subst, arith, append-nil, append_assoc}
+use Rattle.std.proofs.Common.{◌≡◌, ℕ, zero, suc, ◌+◌, ◌<◌, ◌≤◌, List, [], ◌∷◌, ◌++◌, length, map}
+use Rattle.std.proofs.Common.{drop, get_or, Option, Some, None, slice_get, refl, sym, ap, ◌∙◌}
+use Rattle.std.proofs.Common.{subst, arith, append-nil, append_assoc}
 use Rattle.std.specs.Option.{option_map_or}
 use Rattle.std.specs.List.{AllByRecursion, Contains}
 use Rattle.std.proofs.Math.ListN.{drop_of_length-le}
@@ -40,10 +42,13 @@ ending_at (Some p) = refl
 
 pub place_fits : (x : Exchange) (p : Place) → IsExchange x → IsPlace x p → IsOfBlock x p.block p.layer
 place_fits x p kept h =
-    let stands : StandsInText x p.block h.stmt (map Do h.list ++ ending h.end) = record { list = h.list; end = h.end; more = ending h.end; row = h.row; is = refl; ends = ending_at h.end } in
+    let stands : StandsInText x p.block h.stmt (map Do h.list ++ ending h.end) = record
+    { list = h.list; end = h.end; more = ending h.end; row = h.row; is = refl; ends = ending_at h.end } in
     subst (λ (q : Place). IsOfBlock x p.block q.layer) (sym h.is) (stmt_fits_in x kept p.block h.stmt (map Do h.list ++ ending h.end) stands)
 
-pub row_is : (x : Exchange) (at : Place) (r : Row) (ways : List Way) → IsExchange x → IsPlace x at → ways ≡ ways_of x at → r.temps ≡ temp_count x at.block → r.given ≡ given_count x at.block → r.answered ≡ answer_count x (retrieved at.layer) → r.ways ≡ ways → IsRowOf x at r
+pub row_is : (x : Exchange) (at : Place) (r : Row) (ways : List Way) → IsExchange x → IsPlace x at → ways ≡ ways_of x at
+    → r.temps ≡ temp_count x at.block → r.given ≡ given_count x at.block
+    → r.answered ≡ answer_count x (retrieved at.layer) → r.ways ≡ ways → IsRowOf x at r
 row_is x at r ways kept place made temps given answered same = record {
   temps = temps;
   given = given;
@@ -77,7 +82,9 @@ pub record RowsGo (x : Exchange) (places : List PlaceAt) (i : ℕ) (now : List R
 pub rows_begin : (x : Exchange) (places : List PlaceAt) (now : List Row) → now ≡ [] → RowsGo x places 0 now
 rows_begin x places now none = record { all = λ rest h. subst (λ l. Pairs x places (l ++ rest)) (sym none) h }
 
-pub rows_more : (x : Exchange) (places : List PlaceAt) (i : ℕ) (at : PlaceAt) (r : Row) (now new : List Row) → i < length places → at ≡ get_or places i at → IsRowOf x (seen at) r → new ≡ now ++ r ∷ [] → RowsGo x places i now → RowsGo x places (i + 1) new
+pub rows_more : (x : Exchange) (places : List PlaceAt) (i : ℕ) (at : PlaceAt) (r : Row) (now new : List Row)
+    → i < length places → at ≡ get_or places i at → IsRowOf x (seen at) r → new ≡ now ++ r ∷ [] → RowsGo x places i now
+    → RowsGo x places (i + 1) new
 rows_more x places i at r now new lt is row e g = record {
   all = λ rest h.
       subst (Pairs x places) (sym (append_assoc now (r ∷ []) rest) ∙ ap (λ l. l ++ rest) (sym e))
@@ -90,13 +97,16 @@ pairs_long x [] (r ∷ rows) h = absurd h
 pairs_long x (at ∷ places) [] h = absurd h
 pairs_long x (at ∷ places) (r ∷ rows) h = (let e = pairs_long x places rows h.1 in omega arith)
 
-pairs_get : (x : Exchange) (places : List PlaceAt) (rows : List Row) → Pairs x places rows → (p : ℕ) (at : Place) → slice_get (map seen places) p ≡ Some at → HasRow x rows p at
+pairs_get : (x : Exchange) (places : List PlaceAt) (rows : List Row) → Pairs x places rows → (p : ℕ) (at : Place)
+    → slice_get (map seen places) p ≡ Some at → HasRow x rows p at
 pairs_get x [] rows h p at there = absurd (none-some at there)
 pairs_get x (a ∷ places) [] h p at there = absurd h
-pairs_get x (a ∷ places) (r ∷ rows) h zero at there = record { row = r; there = refl; is = subst (λ (q : Place). IsRowOf x q r) (same_Some (seen a) at there) h.0 }
+pairs_get x (a ∷ places) (r ∷ rows) h zero at there = record
+    { row = r; there = refl; is = subst (λ (q : Place). IsRowOf x q r) (same_Some (seen a) at there) h.0 }
 pairs_get x (a ∷ places) (r ∷ rows) h (suc p) at there = (let g = pairs_get x places rows h.1 p at there in record { row = g.row; there = g.there; is = g.is })
 
-pub rows_end : (x : Exchange) (places : List PlaceAt) (i : ℕ) (now : List Row) → ArePlaces x (map seen places) → length places ≤ i → RowsGo x places i now → AreRows x now
+pub rows_end : (x : Exchange) (places : List PlaceAt) (i : ℕ) (now : List Row) → ArePlaces x (map seen places)
+    → length places ≤ i → RowsGo x places i now → AreRows x now
 rows_end x places i now are past g =
     let pairs : Pairs x places now = subst (Pairs x places) (append-nil now) (g.all [] (subst (λ l. Pairs x l []) (sym (drop_of_length-le places past)) tt)) in
     let long = pairs_long x places now pairs in
@@ -112,7 +122,8 @@ seen_at [] i at lt is = absurd (omega arith)
 seen_at (a ∷ places) zero at lt is = ap (λ (p : PlaceAt). Some (seen p)) (sym is)
 seen_at (a ∷ places) (suc i) at lt is = seen_at places i at (omega arith) is
 
-pub place_at : (x : Exchange) (places : List PlaceAt) (i : ℕ) (at : PlaceAt) → ArePlaces x (map seen places) → i < length places → at ≡ get_or places i at → IsPlace x (seen at)
+pub place_at : (x : Exchange) (places : List PlaceAt) (i : ℕ) (at : PlaceAt) → ArePlaces x (map seen places)
+    → i < length places → at ≡ get_or places i at → IsPlace x (seen at)
 place_at x places i at are lt is = (are.stands i (seen at) (seen_at places i at lt is)).place
 
 pub placed_from : (places : List PlaceAt) (q : ℕ) (p : Place) → slice_get (map seen places) q ≡ Some p → (at : PlaceAt) × Contains places at × (seen at ≡ p)

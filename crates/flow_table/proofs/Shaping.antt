@@ -4,7 +4,8 @@ use Rattle.std.specs.List.{AllByRecursion}
 use Rattle.exchange_model.specs.declared.exchange.Exchange.{Exchange}
 use Rattle.exchange_model.specs.declared.expr.Expr.{Expr}
 use Rattle.exchange_model.specs.declared.signal.SignalKind.{SignalKind}
-use Rattle.exchange_model.specs.declared.signal.SignalKind.TheVariants.{Buffered, Direct, Combined, Outside}
+use Rattle.exchange_model.specs.declared.signal.SignalKind.TheVariants.{Buffered, Direct, Combined}
+use Rattle.exchange_model.specs.declared.signal.SignalKind.TheVariants.{Outside}
 use Rattle.exchange_model.specs.declared.stmt.Receiver.{Receiver}
 use Rattle.exchange_model.specs.declared.stmt.StmtKind.TheOpen as stmt
 use Rattle.source_meaning.specs.Named.{Layer}
@@ -13,7 +14,8 @@ use Rattle.flow_points.specs.declared.flow.Passing.{Passing}
 use Rattle.flow_points.specs.Flows.{LeadsTo, passed}
 use Rattle.flow_points.specs.Places.{Place}
 use Rattle.flow_table.specs.declared.way.Way.{Way}
-use Rattle.flow_table.specs.Shapes.{Shape, LedBy, Stays, Assigns, Finds, TakesGiven, TakesAnswer, Starts, Transfers, Asks, GivesAnswer}
+use Rattle.flow_table.specs.Shapes.{Shape, LedBy, Stays, Assigns, Finds, TakesGiven, TakesAnswer}
+use Rattle.flow_table.specs.Shapes.{Starts, Transfers, Asks, GivesAnswer}
 use Rattle.flow_table.specs.Ways.{send_ways, layer_ways, ways_of}
 use Rattle.flow_table.proofs.Telling.{ways_exact}
 
@@ -21,7 +23,9 @@ module _ (x : Exchange) where
   abbrev Shaped : Layer → List Way → Type 0
   Shaped l ways = AllByRecursion (Shape x l) ways
 
-  sends_shaped : (o : Option SignalKind) (next : Option ℕ) (signal : ℕ) (to : Option Receiver) (values : List Expr) (fresh : Bool) → slice_get x.signals signal ≡ o → Shaped (stmt.Send signal to values fresh) (send_ways x o next signal to values)
+  sends_shaped : (o : Option SignalKind) (next : Option ℕ) (signal : ℕ) (to : Option Receiver) (values : List Expr)
+      (fresh : Bool) → slice_get x.signals signal ≡ o
+      → Shaped (stmt.Send signal to values fresh) (send_ways x o next signal to values)
   sends_shaped (Some (Buffered name level count)) next signal to values fresh there = (Stays refl, tt)
   sends_shaped (Some (Direct name count)) next signal to values fresh there = (Starts values refl refl, tt)
   sends_shaped (Some (Combined name count answer)) next signal to values fresh there = (Asks signal name count answer values there refl refl, (Stays refl, tt))

@@ -1,19 +1,24 @@
 -- The values of an expression come from its only factor, if it has one lone_source.
-use Rattle.std.proofs.Common.{◌≡◌, ℕ, ◌+◌, ◌^◌, ◌<◌, ◌≤◌, List, [], ◌∷◌, length, map, get_or, refl, sym, ap, ◌∙◌, subst, arith}
+use Rattle.std.proofs.Common.{◌≡◌, ℕ, ◌+◌, ◌^◌, ◌<◌, ◌≤◌, List, [], ◌∷◌, length, map, get_or, refl}
+use Rattle.std.proofs.Common.{sym, ap, ◌∙◌, subst, arith}
 use Rattle.std.specs.List.{AllByRecursion}
 use Rattle.exchange_model.specs.declared.expr.Expr.{Expr, out-Expr, fold_out-Expr}
 use Rattle.exchange_model.specs.declared.expr.Term.{Term, out-Term, fold_out-Term}
 use Rattle.exchange_model.specs.declared.expr.Joined.{Joined, fold_out-Joined}
-use Rattle.exchange_model.specs.declared.expr.Factor.{Factor, out-Factor, fold_out-Factor, map-Factor}
-use Rattle.exchange_model.specs.declared.expr.Factor.TheOpen.{Factor-F, Number, Variable, Temporary, Field, Bracket, Reference}
+use Rattle.exchange_model.specs.declared.expr.Factor.{Factor, out-Factor, fold_out-Factor}
+use Rattle.exchange_model.specs.declared.expr.Factor.{map-Factor}
+use Rattle.exchange_model.specs.declared.expr.Factor.TheOpen.{Factor-F, Number, Variable, Temporary}
+use Rattle.exchange_model.specs.declared.expr.Factor.TheOpen.{Field, Bracket, Reference}
 use Rattle.exchange_model.specs.Fits.{FactorFits}
 use Rattle.exchange_model.specs.PartFits.{TermFits, JoinedFits, InsideFits}
-use Rattle.exchange_model.proofs.Layers.{expr_fits-out, term_fits-out, joined_fits-out, factor_fits-out}
+use Rattle.exchange_model.proofs.Layers.{expr_fits-out, term_fits-out, joined_fits-out}
+use Rattle.exchange_model.proofs.Layers.{factor_fits-out}
 use Rattle.flow_points.specs.declared.fact.Value.TheVariants.{Any}
 use Rattle.flow_points.specs.declared.flow.Source.{Source}
 use Rattle.flow_points.specs.declared.flow.Source.TheVariants.{Is}
 use Rattle.flow_points.specs.Sources.{lone_source, factor_source, expr_source}
-use Rattle.flow_table.specs.Alone.{term_source, joined_source, own_source, inside_source, IsExprIn, IsTermIn, IsFactorIn}
+use Rattle.flow_table.specs.Alone.{term_source, joined_source, own_source, inside_source, IsExprIn}
+use Rattle.flow_table.specs.Alone.{IsTermIn, IsFactorIn}
 
 pub expr_source-out : (e : Expr) → expr_source e ≡ lone_source (map term_source (out-Expr e).terms)
 unfolding expr_source term_source
@@ -27,7 +32,9 @@ pub joined_source-out : (j : Joined) → joined_source j ≡ own_source j.factor
 unfolding joined_source own_source
 joined_source-out j = fold_out-Joined Source Source Source Source factor_source (λ e. lone_source e.terms) (λ j. j.factor) (λ t. lone_source t.factors) j
 
-source_inside : (l : Factor-F Factor Expr Joined Term) → factor_source (map-Factor Factor Expr Joined Term Source Source Source Source own_source expr_source joined_source term_source l) ≡ inside_source l
+source_inside : (l : Factor-F Factor Expr Joined Term)
+    → factor_source (map-Factor Factor Expr Joined Term Source Source Source Source own_source expr_source joined_source
+    term_source l) ≡ inside_source l
 source_inside (Number n) = refl
 source_inside (Variable v) = refl
 source_inside (Temporary t) = refl
@@ -37,7 +44,8 @@ source_inside (Reference b) = refl
 
 pub own_source-out : (f : Factor) → own_source f ≡ inside_source (out-Factor f)
 unfolding own_source expr_source joined_source term_source
-own_source-out f = fold_out-Factor Source Source Source Source factor_source (λ e. lone_source e.terms) (λ j. j.factor) (λ t. lone_source t.factors) f ∙ source_inside (out-Factor f)
+own_source-out f = fold_out-Factor Source Source Source Source factor_source (λ e. lone_source e.terms) (λ j. j.factor)
+    (λ t. lone_source t.factors) f ∙ source_inside (out-Factor f)
 
 -- one item, or not
 alone_more : {A : Type 0} (f : A → Source) (xs : List A) → (length xs ≡ 1 → ⊥) → lone_source (map f xs) ≡ Is Any
@@ -70,7 +78,12 @@ factor_in t factors j same is h =
     record { scope = h.scope; few = h.few; fits = joined_fits-out h.scope j all.0 }
 
 pub expr_in : (f : Factor) (e : Expr) → out-Factor f ≡ Bracket e → IsFactorIn f → IsExprIn e
-expr_in f e is h = record { scope = h.scope; few = h.few; fits = subst (λ (l : Factor-F Factor Expr Joined Term). InsideFits h.scope l) is (factor_fits-out h.scope f h.fits).1 }
+expr_in f e is h = record {
+  scope = h.scope;
+  few = h.few;
+  fits = subst (λ (l : Factor-F Factor Expr Joined Term). InsideFits h.scope l) is
+      (factor_fits-out h.scope f h.fits).1;
+}
 
 pub block_below : (f : Factor) (b : ℕ) → out-Factor f ≡ Reference b → IsFactorIn f → b + 1 < 2 ^ 32
 block_below f b is h =

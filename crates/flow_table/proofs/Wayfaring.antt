@@ -1,5 +1,8 @@
 -- The ways from a statement, kind by kind.
-use Rattle.std.proofs.Common.{◌≡◌, ℕ, zero, suc, ◌+◌, ◌<◌, ◌≤◌, ◌^◌, max, List, [], ◌∷◌, ◌++◌, length, drop, get_or, Bool, true, false, if◌then◌else◌, Option, Some, None, Result, IfOk, slice_get, sym, ap, ◌∙◌, subst, arith, append-nil, append_assoc}
+use Rattle.std.proofs.Common.{◌≡◌, ℕ, zero, suc, ◌+◌, ◌<◌, ◌≤◌, ◌^◌, max, List, [], ◌∷◌, ◌++◌}
+use Rattle.std.proofs.Common.{length, drop, get_or, Bool, true, false, if◌then◌else◌, Option, Some}
+use Rattle.std.proofs.Common.{None, Result, IfOk, slice_get, sym, ap, ◌∙◌, subst, arith, append-nil}
+use Rattle.std.proofs.Common.{append_assoc}
 use Rattle.std.proofs.Math.ListN.{drop_of_length-le}
 use Rattle.std.proofs.lemmas.Option.{slice_get_past}
 use Rattle.std.specs.List.{AllByRecursion, list_any}
@@ -30,7 +33,9 @@ use Rattle.flow_table.specs.Ways.{bare_points, begun_points, is_bare, listed, la
 pub choices_begin : (whens : List When) (old now : List ℕ) → now ≡ old → now ++ begun_points whens ≡ old ++ begun_points whens
 choices_begin whens old now same = ap (λ l. l ++ begun_points whens) same
 
-pub choices_more : (whens : List When) (o : Option ℕ) (i : ℕ) (w : When) (body : List Stmt) (now new all : List ℕ) → i < length whens → w ≡ get_or whens i w → body ≡ (out-When w).body → o ≡ first_point body None → new ≡ now ++ listed o → now ++ begun_points (drop i whens) ≡ all → new ++ begun_points (drop (i + 1) whens) ≡ all
+pub choices_more : (whens : List When) (o : Option ℕ) (i : ℕ) (w : When) (body : List Stmt) (now new all : List ℕ)
+    → i < length whens → w ≡ get_or whens i w → body ≡ (out-When w).body → o ≡ first_point body None
+    → new ≡ now ++ listed o → now ++ begun_points (drop i whens) ≡ all → new ++ begun_points (drop (i + 1) whens) ≡ all
 choices_more whens o i w body now new all lt is same at e h =
     let rest = begun_points (drop (i + 1) whens) in
     let one = listed (first_point (out-When w).body None) in
@@ -40,7 +45,8 @@ choices_more whens o i w body now new all lt is same at e h =
 pub choices_end : (whens : List When) (i : ℕ) (now all : List ℕ) → length whens ≤ i → now ++ begun_points (drop i whens) ≡ all → now ≡ all
 choices_end whens i now all past h = sym (append-nil now) ∙ sym (ap (λ l. now ++ begun_points l) (drop_of_length-le whens past)) ∙ h
 
-pub bare_some : (whens : List When) (next : Option ℕ) (t : Bool) (old new : List ℕ) → t ≡ list_any is_bare whens → t ≡ true → new ≡ old ++ listed next → new ≡ old ++ bare_points whens next
+pub bare_some : (whens : List When) (next : Option ℕ) (t : Bool) (old new : List ℕ) → t ≡ list_any is_bare whens
+    → t ≡ true → new ≡ old ++ listed next → new ≡ old ++ bare_points whens next
 bare_some whens next t old new is so e = e ∙ ap (λ b. old ++ (if b then listed next else [])) (sym so ∙ is)
 
 pub bare_none : (whens : List When) (next : Option ℕ) (t : Bool) (old : List ℕ) → t ≡ list_any is_bare whens → t ≡ false → old ≡ old ++ bare_points whens next
@@ -57,7 +63,8 @@ count_some x signal n k there is = is ∙ sym (ap (λ o. option_map_or signal_co
 pub given_none : (x : Exchange) (b : ℕ) → length x.blocks ≤ b → 0 ≡ given_count x b
 given_none x b past = sym (ap (λ o. option_map_or (λ (k : Block). most_of x k.enters) o 0) (slice_get_past x.blocks b past))
 
-pub given_some : (x : Exchange) (b n : ℕ) (k : Block) (rows : List Row) → slice_get x.blocks b ≡ Some k → rows ≡ k.enters → n ≡ most_of x rows → n ≡ given_count x b
+pub given_some : (x : Exchange) (b n : ℕ) (k : Block) (rows : List Row) → slice_get x.blocks b ≡ Some k
+    → rows ≡ k.enters → n ≡ most_of x rows → n ≡ given_count x b
 given_some x b n k rows there same is = is ∙ ap (most_of x) same ∙ sym (ap (λ o. option_map_or (λ (k : Block). most_of x k.enters) o 0) there)
 
 pub record MostSoFar (x : Exchange) (rows : List Row) (i now : ℕ) : Type 0 where
@@ -66,7 +73,8 @@ pub record MostSoFar (x : Exchange) (rows : List Row) (i now : ℕ) : Type 0 whe
 pub most_begin : (x : Exchange) (rows : List Row) → MostSoFar x rows 0 0
 most_begin x rows = record { all = omega arith }
 
-pub most_more : (x : Exchange) (rows : List Row) (i now new count : ℕ) (r : Row) → i < length rows → r ≡ get_or rows i r → count ≡ value_count x r.signal → new ≡ max now count → MostSoFar x rows i now → MostSoFar x rows (i + 1) new
+pub most_more : (x : Exchange) (rows : List Row) (i now new count : ℕ) (r : Row) → i < length rows → r ≡ get_or rows i r
+    → count ≡ value_count x r.signal → new ≡ max now count → MostSoFar x rows i now → MostSoFar x rows (i + 1) new
 most_more x rows i now new count r lt is at e g =
     let split : most_of x (drop i rows) ≡ max (value_count x r.signal) (most_of x (drop (i + 1) rows)) = ap (most_of x) (opens rows i r lt is) in
     let all = g.all in
@@ -89,12 +97,16 @@ each_in : (s : Scope) (es : List Expr) → length s.blocks < 2 ^ 31 → AllByRec
 each_in s [] few all = tt
 each_in s (e ∷ es) few all = (record { scope = s; few = few; fits = all.0 }, each_in s es few all.1)
 
-pub exprs_in : (x : Exchange) (b : ℕ) (k : StmtKind) (l : Layer) → IsExchange x → IsOfBlock x b (out-StmtKind k) → out-StmtKind k ≡ l → AllByRecursion IsExprIn (own_exprs l)
+pub exprs_in : (x : Exchange) (b : ℕ) (k : StmtKind) (l : Layer) → IsExchange x → IsOfBlock x b (out-StmtKind k)
+    → out-StmtKind k ≡ l → AllByRecursion IsExprIn (own_exprs l)
 exprs_in x b k l kept h is =
     let few = kept.blocks.few in
-    subst (λ (m : Layer). AllByRecursion IsExprIn (own_exprs m)) is (each_in (scope_of x b h.block) (own_exprs (out-StmtKind k)) (omega (arith, few)) h.fits.exprs.each)
+    subst (λ (m : Layer). AllByRecursion IsExprIn (own_exprs m)) is
+    (each_in (scope_of x b h.block) (own_exprs (out-StmtKind k)) (omega (arith, few)) h.fits.exprs.each)
 
 -- what is made of a kind is made of the statement
 
-pub made : (x : Exchange) (b p : ℕ) (next : Option ℕ) (k : StmtKind) (l : Layer) (ws : List Way) (r : Result (List Way) Memory) → out-StmtKind k ≡ l → ws ≡ layer_ways x b p next l → IfOk r (λ w. w ≡ ws) → IfOk r (λ w. w ≡ layer_ways x b p next (out-StmtKind k))
+pub made : (x : Exchange) (b p : ℕ) (next : Option ℕ) (k : StmtKind) (l : Layer) (ws : List Way)
+    (r : Result (List Way) Memory) → out-StmtKind k ≡ l → ws ≡ layer_ways x b p next l → IfOk r (λ w. w ≡ ws)
+    → IfOk r (λ w. w ≡ layer_ways x b p next (out-StmtKind k))
 made x b p next k l ws r is e h = subst (λ v. IfOk r (λ w. w ≡ v)) (e ∙ ap (layer_ways x b p next) (sym is)) h

@@ -4,7 +4,8 @@ use Rattle.exchange_model.specs.declared.expr.Expr.{Expr}
 use Rattle.exchange_model.specs.declared.expr.Term.{Term, fold-Term}
 use Rattle.exchange_model.specs.declared.expr.Joined.{Joined, fold-Joined}
 use Rattle.exchange_model.specs.declared.expr.Factor.{Factor, fold-Factor}
-use Rattle.exchange_model.specs.declared.expr.Factor.TheOpen.{Factor-F, Number, Variable, Temporary, Field, Bracket, Reference}
+use Rattle.exchange_model.specs.declared.expr.Factor.TheOpen.{Factor-F, Number, Variable, Temporary}
+use Rattle.exchange_model.specs.declared.expr.Factor.TheOpen.{Field, Bracket, Reference}
 use Rattle.exchange_model.specs.Fits.{Scope, ExprFits}
 use Rattle.exchange_model.specs.PartFits.{TermFits, FactorOwnFits}
 use Rattle.flow_points.specs.declared.limits.TheConstants.{SMALL_NUMBERS}
@@ -15,13 +16,16 @@ use Rattle.flow_points.specs.declared.flow.Source.TheVariants.{Of, Is}
 use Rattle.flow_points.specs.Sources.{lone_source, factor_source, expr_source}
 
 unfoldable pub term_source : Term → Source
-term_source = fold-Term Source Source Source Source factor_source (λ e. lone_source e.terms) (λ j. j.factor) (λ t. lone_source t.factors)
+term_source = fold-Term Source Source Source Source factor_source (λ e. lone_source e.terms)
+    (λ j. j.factor) (λ t. lone_source t.factors)
 
 unfoldable pub joined_source : Joined → Source
-joined_source = fold-Joined Source Source Source Source factor_source (λ e. lone_source e.terms) (λ j. j.factor) (λ t. lone_source t.factors)
+joined_source = fold-Joined Source Source Source Source factor_source (λ e. lone_source e.terms)
+    (λ j. j.factor) (λ t. lone_source t.factors)
 
 unfoldable pub own_source : Factor → Source
-own_source = fold-Factor Source Source Source Source factor_source (λ e. lone_source e.terms) (λ j. j.factor) (λ t. lone_source t.factors)
+own_source = fold-Factor Source Source Source Source factor_source (λ e. lone_source e.terms)
+    (λ j. j.factor) (λ t. lone_source t.factors)
 
 abbrev pub small : ℕ → Source
 small n = (if nat_lt n SMALL_NUMBERS then Is (Const n) else Is Any)

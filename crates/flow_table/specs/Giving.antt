@@ -34,14 +34,16 @@ pub record HasGiven (old new : List Fact) (G : Fact → Type 0) : Type 0 where
   pub listed : (f : Fact) → G f → Contains added f
 
 -- a source before a point gives the fact to a slot before another point
-pub record SlotGives (P : Facts) (e p : ℕ) (source : Source) (q : ℕ) (s : Slot) (f : Fact) : Type 0 where
+pub record SlotGives (P : Facts) (e p : ℕ) (source : Source) (q : ℕ) (s : Slot) (f : Fact) : Type
+    0 where
   pub entry : f.entry ≡ e
   pub point : f.point ≡ q
   pub slot : f.slot ≡ s
   pub gives : SourceGives P e p source f.value
 
 -- so do the sources of a flow to one of these slots
-pub record SlotsGive (P : Facts) (e p : ℕ) (how : Passing) (q : ℕ) (slots : List Slot) (f : Fact) : Type 0 where
+pub record SlotsGive (P : Facts) (e p : ℕ) (how : Passing) (q : ℕ) (slots : List Slot)
+    (f : Fact) : Type 0 where
   pub entry : f.entry ≡ e
   pub point : f.point ≡ q
   pub slot : Contains slots f.slot

@@ -1,5 +1,7 @@
--- Lists of points, one for each answer: of the statements that have to do with the answer in one way, as those that retrieve it.
-use Rattle.std.specs.Prelude.{◌≡◌, ◌↔◌, ℕ, List, [], ◌∷◌, ◌++◌, length, Option, Some, None, slice_get, slice_index_or, slice_set}
+-- Lists of points, one for each answer: of the statements that have to do with the answer in one
+-- way, as those that retrieve it.
+use Rattle.std.specs.Prelude.{◌≡◌, ◌↔◌, ℕ, List, [], ◌∷◌, ◌++◌, length, Option, Some, None}
+use Rattle.std.specs.Prelude.{slice_get, slice_index_or, slice_set}
 use Rattle.std.specs.List.{Contains}
 use Rattle.exchange_model.specs.declared.exchange.Exchange.{Exchange}
 use Rattle.exchange_model.specs.declared.stmt.StmtKind.{out-StmtKind}
@@ -32,6 +34,8 @@ pub record IsOfAnswer (of : Layer → Option ℕ) (x : Exchange) (point answer :
   pub has : of place.layer ≡ Some answer
 
 -- the points of each signal's answer
-pub record ArePointLists (of : Layer → Option ℕ) (x : Exchange) (lists : List (List ℕ)) : Type 0 where
+pub record ArePointLists (of : Layer → Option ℕ) (x : Exchange) (lists : List (List ℕ)) : Type
+    0 where
   pub each_signal : length lists ≡ length x.signals
-  pub exact : (answer : ℕ) (points : List ℕ) → slice_get lists answer ≡ Some points → (p : ℕ) → Contains points p ↔ IsOfAnswer of x p answer
+  pub exact : (answer : ℕ) (points : List ℕ) → slice_get lists answer ≡ Some points → (p : ℕ)
+      → Contains points p ↔ IsOfAnswer of x p answer

@@ -53,7 +53,8 @@ pub record AreRetrieves (x : Exchange) (answer : ℕ) (points : List ℕ) : Type
 -- the points of the RETRIEVEs of each signal
 pub record AreAllRetrieves (x : Exchange) (retrieves : List (List ℕ)) : Type 0 where
   pub each_signal : length retrieves ≡ length x.signals
-  pub exact : (answer : ℕ) (points : List ℕ) → slice_get retrieves answer ≡ Some points → AreRetrieves x answer points
+  pub exact : (answer : ℕ) (points : List ℕ) → slice_get retrieves answer ≡ Some points
+      → AreRetrieves x answer points
 
 -- the table of an exchange
 pub record IsFlowTable (x : Exchange) (t : FlowTable) : Type 0 where

@@ -1,6 +1,8 @@
--- The ways from a statement as they are kept, and what they lead to. Each point to which several flows go with the same values is an
--- end of one way, and an answer goes to all its RETRIEVEs, which are kept once.
-use Rattle.std.specs.Prelude.{◌≡◌, ◌↔◌, ℕ, Bool, is_none, List, [], ◌∷◌, ◌++◌, length, map, Option, Some, None, slice_get, if◌then◌else◌}
+-- The ways from a statement as they are kept, and what they lead to. Each point to which several
+-- flows go with the same values is an end of one way, and an answer goes to all its RETRIEVEs,
+-- which are kept once.
+use Rattle.std.specs.Prelude.{◌≡◌, ◌↔◌, ℕ, Bool, is_none, List, [], ◌∷◌, ◌++◌, length, map, Option}
+use Rattle.std.specs.Prelude.{Some, None, slice_get, if◌then◌else◌}
 use Rattle.std.specs.List.{Contains, list_any, range_with_len}
 use Rattle.exchange_model.specs.declared.exchange.Exchange.{Exchange}
 use Rattle.exchange_model.specs.declared.block.Enter.{Enter as Row}
@@ -8,7 +10,8 @@ use Rattle.exchange_model.specs.Inside.{most}
 use Rattle.source_meaning.specs.Changes.{value_count}
 use Rattle.exchange_model.specs.declared.expr.Expr.{Expr}
 use Rattle.exchange_model.specs.declared.signal.SignalKind.{SignalKind}
-use Rattle.exchange_model.specs.declared.signal.SignalKind.TheVariants.{Buffered, Direct, Combined, Outside}
+use Rattle.exchange_model.specs.declared.signal.SignalKind.TheVariants.{Buffered, Direct, Combined}
+use Rattle.exchange_model.specs.declared.signal.SignalKind.TheVariants.{Outside}
 use Rattle.exchange_model.specs.declared.stmt.Receiver.{Receiver}
 use Rattle.exchange_model.specs.declared.stmt.Receiver.TheVariants as receiver
 use Rattle.exchange_model.specs.declared.stmt.When.{When, out-When}
@@ -18,7 +21,8 @@ use Rattle.source_meaning.specs.Rests.{first_point}
 use Rattle.flow_points.specs.declared.fact.Value.TheVariants.{Any}
 use Rattle.flow_points.specs.declared.flow.Source.TheVariants.{Is}
 use Rattle.flow_points.specs.declared.flow.Passing.{Passing}
-use Rattle.flow_points.specs.declared.flow.Passing.TheVariants.{Kept, Sets, Takes, Retrieves, Begins, Passes, Calls, Answers}
+use Rattle.flow_points.specs.declared.flow.Passing.TheVariants.{Kept, Sets, Takes, Retrieves}
+use Rattle.flow_points.specs.declared.flow.Passing.TheVariants.{Begins, Passes, Calls, Answers}
 use Rattle.flow_points.specs.Places.{Place, label_point, enter_point, receives, IsRetrieveAt}
 use Rattle.flow_points.specs.Sources.{expr_source}
 use Rattle.flow_points.specs.Flows.{passed, LeadsTo}
@@ -60,7 +64,8 @@ to_next how next = to_points how (listed next)
 -- those of these blocks that receive a signal
 abbrev pub receiving : Exchange → ℕ → List ℕ → List ℕ
 receiving x signal [] = []
-receiving x signal (b ∷ bs) = (if receives x signal b then b ∷ receiving x signal bs else receiving x signal bs)
+receiving x signal (b ∷ bs) =
+    (if receives x signal b then b ∷ receiving x signal bs else receiving x signal bs)
 
 -- all blocks that receive it
 abbrev pub all_receiving : Exchange → ℕ → List ℕ
@@ -97,9 +102,11 @@ bare_points whens next = (if list_any is_bare whens then listed next else [])
 abbrev pub choice_points : List When → Option ℕ → List ℕ
 choice_points whens next = begun_points whens ++ bare_points whens next
 
-abbrev pub send_ways : Exchange → Option SignalKind → Option ℕ → ℕ → Option Receiver → List Expr → List Way
+abbrev pub send_ways : Exchange → Option SignalKind → Option ℕ → ℕ → Option Receiver → List Expr
+    → List Way
 send_ways x (Some (Buffered name level count)) next signal to values = to_next Kept next ∷ []
-send_ways x (Some (Direct name count)) next signal to values = to_enters x signal to (Begins (map expr_source values)) ∷ []
+send_ways x (Some (Direct name count)) next signal to values =
+    to_enters x signal to (Begins (map expr_source values)) ∷ []
 send_ways x (Some (Combined name count answer)) next signal to values =
     to_enters x signal to (Calls (map expr_source values) answer) ∷ to_next Kept next ∷ []
 send_ways x (Some (Outside name count)) next signal to values = to_next Kept next ∷ []
@@ -111,16 +118,25 @@ layer_ways x b p next (stmt.SetTemp temp e) = to_next (Sets temp (expr_source e)
 layer_ways x b p next (stmt.SetVariable variable e) = to_next Kept next ∷ []
 layer_ways x b p next (stmt.SetField file field pointer e) = to_next Kept next ∷ []
 layer_ways x b p next (stmt.Goto label) = to_next Kept (label_point x b label) ∷ []
-layer_ways x b p next (stmt.IfGoto cond label) = to_points Kept (listed (label_point x b label) ++ listed next) ∷ []
-layer_ways x b p next (stmt.If cond yes_part no_part) = to_points Kept (listed (first_point yes_part next) ++ listed (first_point no_part next)) ∷ []
-layer_ways x b p next (stmt.Case e whens otherwise) = to_points Kept (choice_points whens next ++ listed (first_point otherwise next)) ∷ []
-layer_ways x b p next (stmt.On temp from upto body) = to_next (Sets temp (Is Any)) (first_point body (Some p)) ∷ to_next Kept next ∷ []
-layer_ways x b p next (stmt.ForFirst temp file field rel e label) = to_next (Sets temp (Is Any)) (label_point x b label) ∷ to_next Kept next ∷ []
-layer_ways x b p next (stmt.Send signal to values fresh) = send_ways x (slice_get x.signals signal) next signal to values
+layer_ways x b p next (stmt.IfGoto cond label) =
+    to_points Kept (listed (label_point x b label) ++ listed next) ∷ []
+layer_ways x b p next (stmt.If cond yes_part no_part) =
+    to_points Kept (listed (first_point yes_part next) ++ listed (first_point no_part next)) ∷ []
+layer_ways x b p next (stmt.Case e whens otherwise) =
+    to_points Kept (choice_points whens next ++ listed (first_point otherwise next)) ∷ []
+layer_ways x b p next (stmt.On temp from upto body) =
+    to_next (Sets temp (Is Any)) (first_point body (Some p)) ∷ to_next Kept next ∷ []
+layer_ways x b p next (stmt.ForFirst temp file field rel e label) =
+    to_next (Sets temp (Is Any)) (label_point x b label) ∷ to_next Kept next ∷ []
+layer_ways x b p next (stmt.Send signal to values fresh) =
+    send_ways x (slice_get x.signals signal) next signal to values
 layer_ways x b p next (stmt.Retrieve answer temps) = to_next (Retrieves temps) next ∷ []
-layer_ways x b p next (stmt.Return answer values) = record { how = Answers (map expr_source values); ends = ends.Retrieves answer } ∷ []
-layer_ways x b p next (stmt.Transfer signal to) = to_enters x signal to (Passes (passed x b signal)) ∷ []
-layer_ways x b p next (stmt.Seize temp file label) = to_next (Sets temp (Is Any)) next ∷ to_next Kept (label_point x b label) ∷ []
+layer_ways x b p next (stmt.Return answer values) =
+    record { how = Answers (map expr_source values); ends = ends.Retrieves answer } ∷ []
+layer_ways x b p next (stmt.Transfer signal to) =
+    to_enters x signal to (Passes (passed x b signal)) ∷ []
+layer_ways x b p next (stmt.Seize temp file label) =
+    to_next (Sets temp (Is Any)) next ∷ to_next Kept (label_point x b label) ∷ []
 layer_ways x b p next (stmt.Free temp file) = to_next Kept next ∷ []
 layer_ways x b p next stmt.Exit = []
 layer_ways x b p next stmt.Finish = []

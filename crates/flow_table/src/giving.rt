@@ -2,7 +2,8 @@
 ghost use Rattle.std.specs.Prelude.{◌≡◌, ◌∷◌, ◌++◌, ◌↔◌, [], map, IfOk, OnOk, IsTrue};
 ghost use Rattle.flow_points.specs.declared.fact.Value.TheVariants as variants;
 ghost use Rattle.flow_points.specs.Facts.{Guarded, SourceGives, fact};
-ghost use Rattle.flow_table.specs.Giving.{AreValues, HasGiven, SlotGives, SlotsGive, raised as raised_of, raised_one};
+ghost use Rattle.flow_table.specs.Giving.{AreValues, HasGiven, SlotGives, SlotsGive};
+ghost use Rattle.flow_table.specs.Giving.{raised as raised_of, raised_one};
 ghost use Rattle.flow_table.specs.Small.{IsSmall};
 
 use crate::known::KnownFacts;
@@ -113,7 +114,8 @@ pub fn push_given<K: KnownFacts>(
     push_facts(entry, to, slot, values.as_slice(), facts)
 }
 
-/// Appends what a flow from a point gives to these slots before another one, where nothing else is asked for.
+/// Appends what a flow from a point gives to these slots before another one, where nothing else is
+/// asked for.
 pub fn push_flow<K: KnownFacts>(
     alloc: Global,
     known: &K,
@@ -144,8 +146,8 @@ pub fn push_flow<K: KnownFacts>(
     Ok(())
 }
 
-/// Whether what a flow asks for besides its own point being reached holds: room for one more caller, or a RETRIEVE that is
-/// reached.
+/// Whether what a flow asks for besides its own point being reached holds: room for one more
+/// caller, or a RETRIEVE that is reached.
 pub fn is_guarded<K: KnownFacts>(
     alloc: Global,
     known: &K,

@@ -1,9 +1,11 @@
-// The flow table of an exchange: all its statements, each where it stands, and where each one leads.
+// The flow table of an exchange: all its statements, each where it stands, and where each one
+// leads.
 //
-// What goes in: an exchange. What comes out: a `FlowTable`, which is made once: for each point how many slots stand before it and
-// the ways from it, with how values go along; and the points of the RETRIEVEs of each answer. It is proved to lead exactly where
-// the flow rules of `flow_points` do. Over facts that are known, however they are kept, it tells the values that come from a
-// source, and the facts that one flow gives.
+// What goes in: an exchange. What comes out: a `FlowTable`, which is made once: for each point how
+// many slots stand before it and the ways from it, with how values go along; and the points of the
+// RETRIEVEs of each answer. It is proved to lead exactly where the flow rules of `flow_points` do.
+// Over facts that are known, however they are kept, it tells the values that come from a source,
+// and the facts that one flow gives.
 #![tactic(auto)]
 
 mod giving;

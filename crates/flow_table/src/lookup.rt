@@ -4,7 +4,9 @@ ghost use Rattle.exchange_model.specs.declared.stmt.StmtKind.{out-StmtKind};
 ghost use Rattle.source_meaning.specs.Config.{body_of, enter_place, label_of};
 ghost use Rattle.exchange_model.specs.Kept.{is_enter as is_enter_layer};
 ghost use Rattle.source_meaning.specs.Rests.{first_point};
-ghost use Rattle.flow_points.specs.Places.{enter_point as enter_point_of, label_point as label_point_of, receives as receives_signal};
+ghost use Rattle.flow_points.specs.Places.{enter_point as enter_point_of};
+ghost use Rattle.flow_points.specs.Places.{label_point as label_point_of};
+ghost use Rattle.flow_points.specs.Places.{receives as receives_signal};
 ghost use Rattle.flow_table.specs.Ways.{all_receiving, enters_in, listed, receivers_of, receiving};
 
 use crate::walk::{first_of, from};

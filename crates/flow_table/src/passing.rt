@@ -3,7 +3,9 @@ ghost use Rattle.std.specs.Prelude.{◌≡◌, ◌≤◌, length, nat_eq, if◌t
 ghost use Rattle.plex_limits.specs.declared.limits.TheConstants.{MOST_VALUES};
 ghost use Rattle.flow_points.specs.declared.fact.Slot.TheVariants as slots;
 ghost use Rattle.flow_points.specs.declared.flow.Source.TheVariants as sources;
-ghost use Rattle.flow_points.specs.Sources.{at_place, kept as kept_of, named, sets as sets_of, source_of, start_source as start_source_of, takes as takes_of};
+ghost use Rattle.flow_points.specs.Sources.{at_place, kept as kept_of, named, sets as sets_of};
+ghost use Rattle.flow_points.specs.Sources.{source_of, start_source as start_source_of};
+ghost use Rattle.flow_points.specs.Sources.{takes as takes_of};
 ghost use Rattle.flow_table.specs.Small.{IsSmall, slot_at};
 
 use flow_points::{Passing, Slot, Source, Value};

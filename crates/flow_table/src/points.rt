@@ -15,7 +15,8 @@ enum Place {
     Away(Box<Seq<u32>>),
 }
 
-/// A list of points that mostly has one, in 16 bytes: more than one stand in a place of their own. Contracts see the list.
+/// A list of points that mostly has one, in 16 bytes: more than one stand in a place of their own.
+/// Contracts see the list.
 #[derive(Drop)]
 pub struct Points {
     place: Place,

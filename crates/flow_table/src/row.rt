@@ -1,7 +1,8 @@
 use crate::way::Way;
 use plex_num::Seq;
 
-/// The row of a point: how many temporaries, entry values and values of an answer stand before it, and the ways from it.
+/// The row of a point: how many temporaries, entry values and values of an answer stand before it,
+/// and the ways from it.
 pub struct Row {
     pub temps: u8,
     pub given: u8,
@@ -20,7 +21,8 @@ impl Drop for Row {
     }
 }
 
-/// The table of an exchange: the row of each point, and for each signal the points of the RETRIEVEs that await it.
+/// The table of an exchange: the row of each point, and for each signal the points of the RETRIEVEs
+/// that await it.
 pub struct FlowTable {
     pub rows: Seq<Row>,
     pub retrieves: Seq<Seq<u32>>,

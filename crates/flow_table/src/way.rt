@@ -1,7 +1,8 @@
 use crate::points::Points;
 use flow_points::Passing;
 
-/// Where a way leads to: to these points, or to each RETRIEVE of an answer, which is a signal by its number.
+/// Where a way leads to: to these points, or to each RETRIEVE of an answer, which is a signal by
+/// its number.
 #[derive(Drop)]
 pub enum Ends {
     Points(Points),

@@ -13,7 +13,9 @@ ghost use Rattle.flow_points.specs.Sources.{expr_source};
 ghost use Rattle.flow_table.specs.declared.way.Ends.TheVariants as ends;
 ghost use Rattle.flow_table.specs.declared.way.Way.{Way};
 ghost use Rattle.flow_table.specs.Alone.{IsExprIn};
-ghost use Rattle.flow_table.specs.Ways.{bare_points, begun_points, choice_points, is_bare as is_bare_choice, layer_ways, listed, most_of, send_ways as ways_of_send, to_enters, to_next, to_points};
+ghost use Rattle.flow_table.specs.Ways.{bare_points, begun_points, choice_points};
+ghost use Rattle.flow_table.specs.Ways.{is_bare as is_bare_choice, layer_ways, listed, most_of};
+ghost use Rattle.flow_table.specs.Ways.{send_ways as ways_of_send, to_enters, to_next, to_points};
 
 use crate::lookup::{label_point, push_enters, push_point};
 use crate::points::Points;
@@ -190,8 +192,8 @@ fn push_begun(whens: &[When], points: &mut Seq<u32>) -> Result<(), Memory>
     Ok(())
 }
 
-/// Appends the point to which the choices lead that have no statement to begin with, if there is one; it stands once for all of
-/// them.
+/// Appends the point to which the choices lead that have no statement to begin with, if there is
+/// one; it stands once for all of them.
 #[tactic(auto, using(crate::proofs::Wayfaring::bare_some, crate::proofs::Wayfaring::bare_none))]
 fn push_bare(whens: &[When], next: Option<u32>, points: &mut Seq<u32>) -> Result<(), Memory>
     ensures { OnOk result (points.new ≡ points.old ++ bare_points whens.now next) }

@@ -1,5 +1,6 @@
 -- The map and the dead numbers that tables stand for, after each change of a table.
-use Rattle.std.proofs.Common.{◌≡◌, ◌≢◌, ℕ, Bool, true, false, cond, ◌||◌, eqb, List, [], ◌∷◌, None, Some, unwrap_or, refl, sym, ap, ◌∙◌}
+use Rattle.std.proofs.Common.{◌≡◌, ◌≢◌, ℕ, Bool, true, false, cond, ◌||◌, eqb, List, [], ◌∷◌, None}
+use Rattle.std.proofs.Common.{Some, unwrap_or, refl, sym, ap, ◌∙◌}
 use Rattle.std.specs.Ordering.{nat_cmp, eq_by_cmp}
 use Rattle.std.specs.Cmp.{nat_cmp_total, unsigned_tied, nat_eq_equiv}
 use Rattle.std.specs.FinMap as map
@@ -31,7 +32,8 @@ pub same_chains : (es fs : List (ℕ × List Held)) → ((q : ℕ) → lookup (e
 same_chains es fs same = map.same_map nat_cmp_total nat_cmp-IsAntisymmetric _ _ (λ q. get-chains_of fs q ∙ same q ∙ sym (get-chains_of es q))
 
 -- a number got a chain that has records
-pub chains_put : (es fs : List (ℕ × List Held)) (n : ℕ) (chain : List Held) → chain ≢ [] → ((q : ℕ) → lookup (eqb q) fs ≡ cond (eqb n q) (Some chain) (lookup (eqb q) es))
+pub chains_put : (es fs : List (ℕ × List Held)) (n : ℕ) (chain : List Held) → chain ≢ []
+    → ((q : ℕ) → lookup (eqb q) fs ≡ cond (eqb n q) (Some chain) (lookup (eqb q) es))
     → chains_of fs ≡ with_chain (chains_of es) n chain
 chains_put es fs n [] some put = absurd (some refl)
 chains_put es fs n (h ∷ chain) some put = map.same_map nat_cmp_total nat_cmp-IsAntisymmetric _ _ (λ q.
@@ -39,7 +41,8 @@ chains_put es fs n (h ∷ chain) some put = map.same_map nat_cmp_total nat_cmp-I
     ∙ sym (map.get-insert nat_cmp_total (chains_of es) n (h ∷ chain) q ∙ (λ i. cond (tied n q i) (Some (h ∷ chain)) (get-chains_of es q i))))
 
 -- the chain of a number went
-pub chains_without : (es fs : List (ℕ × List Held)) (n : ℕ) (chain : List Held) → chain ≡ [] → ((q : ℕ) → lookup (eqb q) fs ≡ cond (eqb n q) None (lookup (eqb q) es))
+pub chains_without : (es fs : List (ℕ × List Held)) (n : ℕ) (chain : List Held) → chain ≡ []
+    → ((q : ℕ) → lookup (eqb q) fs ≡ cond (eqb n q) None (lookup (eqb q) es))
     → chains_of fs ≡ with_chain (chains_of es) n chain
 chains_without es fs n (h ∷ chain) none went = absurd (cc)
 chains_without es fs n [] none went = map.same_map nat_cmp_total nat_cmp-IsAntisymmetric _ _ (λ q.
@@ -64,7 +67,9 @@ same_dead below ns ms same = ap (λ (s : set.FinSet nat_cmp). record { below = b
     (set.same_set nat_cmp_total nat_cmp-IsAntisymmetric _ _ (λ q. contains-from_table ms q ∙ same q ∙ sym (contains-from_table ns q)))
 
 -- a table got a number
-pub dead_added : (below : ℕ) (ns ms : List ℕ) (n : ℕ) → ((q : ℕ) → list_any (eqb q) ms ≡ cond (eqb n q) true (list_any (eqb q) ns)) → dead_of below ms ≡ with_dead (dead_of below ns) n
+pub dead_added : (below : ℕ) (ns ms : List ℕ) (n : ℕ)
+    → ((q : ℕ) → list_any (eqb q) ms ≡ cond (eqb n q) true (list_any (eqb q) ns))
+    → dead_of below ms ≡ with_dead (dead_of below ns) n
 dead_added below ns ms n added = ap (λ (s : set.FinSet nat_cmp). record { below = below; others = s })
     (set.same_set nat_cmp_total nat_cmp-IsAntisymmetric _ _ (λ q.
     contains-from_table ms q ∙ added q ∙ chosen (eqb n q) (list_any (eqb q) ns)

@@ -1,5 +1,6 @@
 -- The numbers that hold records, in their order, and the chains of these.
-use Rattle.std.proofs.Common.{◌≡◌, ℕ, Bool, true, false, eqb, ◌&&◌, List, [], ◌∷◌, map, Option, None, Some, is_some, refl, sym, ap, subst, ◌∙◌}
+use Rattle.std.proofs.Common.{◌≡◌, ℕ, Bool, true, false, eqb, ◌&&◌, List, [], ◌∷◌, map, Option}
+use Rattle.std.proofs.Common.{None, Some, is_some, refl, sym, ap, subst, ◌∙◌}
 use lib.Dec.{T}
 use Rattle.std.specs.declared.cmp.Ordering.TheVariants.{Less}
 use Rattle.std.specs.Ordering.{nat_cmp, eq_by_cmp, is_lt}
@@ -11,7 +12,8 @@ use Rattle.std.specs.List.{AllByRecursion, IsDistinct, list_any}
 use Rattle.std.specs.List.Sorted.{IsPermutation, IsSorted, IsStrictlySortedBy}
 use Rattle.std.specs.Map.{keys_of}
 use Rattle.std.proofs.lemmas.List.Sorted.{IsNonDecreasingBy-from_sort, list_any-IsPermutation}
-use Rattle.std.proofs.lemmas.Map.Keys.{IsDistinct-IsPermutation, IsStrictlyIncreasing-from_distinct, sorted_from_strictly_increasing, sorted_head, sorted_tail}
+use Rattle.std.proofs.lemmas.Map.Keys.{IsDistinct-IsPermutation, IsStrictlyIncreasing-from_distinct}
+use Rattle.std.proofs.lemmas.Map.Keys.{sorted_from_strictly_increasing, sorted_head, sorted_tail}
 use Rattle.job_types.specs.declared.chain.Held.{Held}
 use Rattle.forlopp_chain.specs.Kept.{chains_of}
 
@@ -55,11 +57,15 @@ one_mark None (Some u) is = absurd (cc)
 one_mark (Some u) None is = absurd (cc)
 one_mark (Some u) (Some v) is = refl
 
-same_members : (ns ms : List ℕ) → T (is_sorted nat_cmp (marked ns)) → T (is_sorted nat_cmp (marked ms)) → ((q : ℕ) → list_any (eq_by_cmp nat_cmp q) ns ≡ list_any (eq_by_cmp nat_cmp q) ms) → ns ≡ ms
+same_members : (ns ms : List ℕ) → T (is_sorted nat_cmp (marked ns)) → T (is_sorted nat_cmp (marked ms))
+    → ((q : ℕ) → list_any (eq_by_cmp nat_cmp q) ns ≡ list_any (eq_by_cmp nat_cmp q) ms) → ns ≡ ms
 same_members ns ms up_n up_m same =
-    let found : (q : ℕ) (ks : List ℕ) → is_some (find nat_cmp q (marked ks)) ≡ list_any (eq_by_cmp nat_cmp q) ks = λ q ks. is_some-find nat_cmp q (marked ks) ∙ ap (list_any (eq_by_cmp nat_cmp q)) (keys-marked ks) in
+    let found : (q : ℕ) (ks : List ℕ) → is_some (find nat_cmp q (marked ks))
+    ≡ list_any (eq_by_cmp nat_cmp q) ks = λ q ks. is_some-find nat_cmp q (marked ks)
+    ∙ ap (list_any (eq_by_cmp nat_cmp q)) (keys-marked ks) in
     sym (keys-marked ns)
-    ∙ ap keys_of (same_entries nat_cmp nat_cmp_total nat_cmp-IsAntisymmetric (marked ns) (marked ms) up_n up_m (λ q. one_mark _ _ (found q ns ∙ same q ∙ sym (found q ms))))
+    ∙ ap keys_of (same_entries nat_cmp nat_cmp_total nat_cmp-IsAntisymmetric (marked ns) (marked ms) up_n up_m
+    (λ q. one_mark _ _ (found q ns ∙ same q ∙ sym (found q ms))))
     ∙ keys-marked ms
 
 -- ---- the keys of a table, sorted
@@ -67,7 +73,8 @@ same_members ns ms up_n up_m same =
 in_map : (es : List (ℕ × List Held)) (q : ℕ) → list_any (eq_by_cmp nat_cmp q) (fin.keys (chains_of es)) ≡ list_any (eq_by_cmp nat_cmp q) (keys_of es)
 in_map es q = sym (fin.contains_key-keys (chains_of es) q) ∙ ap is_some (fin.get-from_entries nat_cmp_total es q) ∙ is_some-find nat_cmp q es
 
-pub sorted_numbers : (es : List (ℕ × List Held)) (ns : List ℕ) → IsDistinct eqb (keys_of es) → IsPermutation (keys_of es) ns → IsSorted nat_cmp ns → ns ≡ fin.keys (chains_of es)
+pub sorted_numbers : (es : List (ℕ × List Held)) (ns : List ℕ) → IsDistinct eqb (keys_of es)
+    → IsPermutation (keys_of es) ns → IsSorted nat_cmp ns → ns ≡ fin.keys (chains_of es)
 sorted_numbers es ns distinct moved sorted =
     let differ = IsDistinct-IsPermutation eqb (λ x y. nat_eq_equiv.symm x y) (keys_of es) ns moved distinct in
     let up = sorted_from_strictly_increasing ns (IsStrictlyIncreasing-from_distinct ns (IsNonDecreasingBy-from_sort (λ (n : ℕ). n) ns sorted) differ) in

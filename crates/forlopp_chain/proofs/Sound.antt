@@ -1,5 +1,6 @@
 -- What holds of chains and dead numbers at every moment, after each change.
-use Rattle.std.proofs.Common.{◌≡◌, ◌≢◌, ℕ, ◌<◌, ◌≤◌, Bool, true, false, cond, eqb, List, [], ◌∷◌, length, None, Some, unwrap_or, refl, sym, ap, subst, ◌∙◌, arith}
+use Rattle.std.proofs.Common.{◌≡◌, ◌≢◌, ℕ, ◌<◌, ◌≤◌, Bool, true, false, cond, eqb, List, [], ◌∷◌}
+use Rattle.std.proofs.Common.{length, None, Some, unwrap_or, refl, sym, ap, subst, ◌∙◌, arith}
 use Rattle.std.specs.Ordering.{nat_cmp}
 use Rattle.std.specs.Cmp.{nat_cmp_total, unsigned_tied}
 use Rattle.std.specs.FinMap as map
@@ -7,8 +8,10 @@ use Rattle.std.specs.FinSet as set
 use Rattle.std.proofs.lemmas.Bool.{eqb-true, ne_eqb, or_from, or_parts}
 use Rattle.plex_limits.specs.declared.limits.TheConstants.{MOST_HELD}
 use Rattle.job_types.specs.declared.chain.Held.{Held}
-use Rattle.job_types.specs.Forlopps.{ChainMap, Dead, chain_at, is_dead, none_dead, with_chain, with_dead, dead_below}
-use Rattle.job_types.proofs.ChainMaps.{get-with_chain, get-with_none, chain_at-with_chain, chain_at-empty}
+use Rattle.job_types.specs.Forlopps.{ChainMap, Dead, chain_at, is_dead, none_dead, with_chain}
+use Rattle.job_types.specs.Forlopps.{with_dead, dead_below}
+use Rattle.job_types.proofs.ChainMaps.{get-with_chain, get-with_none, chain_at-with_chain}
+use Rattle.job_types.proofs.ChainMaps.{chain_at-empty}
 use Rattle.forlopp_chain.specs.Chains.{AreBelow, IsSound, NoneEmpty}
 
 NoneEmpty-with : (m : ChainMap) (n : ℕ) (chain : List Held) → NoneEmpty m → NoneEmpty (with_chain m n chain)
@@ -40,7 +43,8 @@ pub dead_below-zero : (dead : Dead) (next : ℕ) → is_dead dead 0 ≡ false �
 dead_below-zero dead next zero = zero
 
 -- a live number gets a chain
-pub IsSound-put : (m : ChainMap) (dead : Dead) (n : ℕ) (chain : List Held) → IsSound m dead → n ≢ 0 → is_dead dead n ≡ false → length chain ≤ MOST_HELD → IsSound (with_chain m n chain) dead
+pub IsSound-put : (m : ChainMap) (dead : Dead) (n : ℕ) (chain : List Held) → IsSound m dead → n ≢ 0
+    → is_dead dead n ≡ false → length chain ≤ MOST_HELD → IsSound (with_chain m n chain) dead
 IsSound-put m dead n chain sound some live few = record {
   some = NoneEmpty-with m n chain sound.some;
   few = λ q. subst (λ c. length c ≤ MOST_HELD) (sym (chain_at-with_chain m n chain q)) (short q (eqb q n));

@@ -1,4 +1,5 @@
--- What contracts see of the chains of the forlopps and of the dead numbers, and what holds of them at every moment.
+-- What contracts see of the chains of the forlopps and of the dead numbers, and what holds of them
+-- at every moment.
 use Rattle.std.specs.Prelude.{◌≡◌, ◌≢◌, ℕ, ◌<◌, ◌≤◌, false, [], length, Some}
 use Rattle.std.specs.FinMap as map
 use Rattle.plex_limits.specs.declared.limits.TheConstants.{MOST_HELD}

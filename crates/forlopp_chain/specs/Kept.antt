@@ -1,4 +1,5 @@
--- The map that a table of chains stands for, and the dead numbers that a bound and a table stand for.
+-- The map that a table of chains stands for, and the dead numbers that a bound and a table stand
+-- for.
 --
 -- A table is a list of entries in no order that matters: no two entries have one number.
 use Rattle.std.specs.Prelude.{ℕ, List}

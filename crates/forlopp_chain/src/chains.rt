@@ -1,7 +1,8 @@
 // The chains and the dead numbers.
 ghost use Rattle.std.specs.Prelude.{◌≡◌, ◌≢◌, ◌+◌, ◌<◌, ◌≤◌, [], false, IfOk, OnOk};
 ghost use Rattle.std.specs.FinMap as map;
-ghost use Rattle.job_types.specs.Forlopps.{all_records, chain_at, dead_below, is_dead, none_dead, with_chain, with_dead};
+ghost use Rattle.job_types.specs.Forlopps.{all_records, chain_at, dead_below, is_dead, none_dead};
+ghost use Rattle.job_types.specs.Forlopps.{with_chain, with_dead};
 ghost use Rattle.forlopp_chain.specs.Chains.{AreBelow, IsSound};
 
 use crate::dead::DeadNumbers;
@@ -11,8 +12,8 @@ use plex_num::{Memory, Seq};
 use std::alloc::Global;
 use std::marker::Model;
 
-/// The chain of each number that holds records, and the numbers that are dead. Contracts see a map, a bound with a set,
-/// and for how many more chains and deaths there is room.
+/// The chain of each number that holds records, and the numbers that are dead. Contracts see a map,
+/// a bound with a set, and for how many more chains and deaths there is room.
 pub struct Chains {
     held: HeldChains,
     dead: DeadNumbers,
@@ -67,8 +68,8 @@ impl Chains {
         self.dead.reserve()
     }
 
-    /// The number, which is live, gets this chain in the place of its own; an empty one is kept as none. There must be
-    /// room for a chain.
+    /// The number, which is live, gets this chain in the place of its own; an empty one is kept as
+    /// none. There must be room for a chain.
     pub fn put_reserved(&mut self, forlopp: u64, chain: Chain)
         requires room { 0 < self.old.puts }
         requires some { forlopp ≢ 0 }
@@ -81,7 +82,8 @@ impl Chains {
         self.held.put(forlopp, chain);
     }
 
-    /// The records of a number, in the order in which it seized them; none where the number is dead or is 0.
+    /// The records of a number, in the order in which it seized them; none where the number is dead
+    /// or is 0.
     pub fn chain(&self, forlopp: u64) -> &[Held]
         ensures chain { result.now ≡ chain_at self.now.chains forlopp }
         ensures sound { IsSound self.now.chains self.now.dead }
@@ -97,7 +99,8 @@ impl Chains {
         self.held.copied(forlopp)
     }
 
-    /// The number, which is live, dies, and its chain is handed out. There must be room for a death.
+    /// The number, which is live, dies, and its chain is handed out. There must be room for a
+    /// death.
     pub fn kill_reserved(&mut self, forlopp: u64) -> Chain
         requires room { 0 < self.old.deaths }
         requires some { forlopp ≢ 0 }
@@ -112,7 +115,8 @@ impl Chains {
         self.held.take(forlopp)
     }
 
-    /// All numbers from 1 up to `next` die, and all chains go. No number from `next` on may hold records. It takes no memory.
+    /// All numbers from 1 up to `next` die, and all chains go. No number from `next` on may hold
+    /// records. It takes no memory.
     pub fn kill_below(&mut self, next: u64)
         requires { AreBelow self.old.chains next }
         ensures chains { self.new.chains ≡ map.empty }
@@ -140,7 +144,8 @@ impl Chains {
         self.held.numbers()
     }
 
-    /// The records of all chains, by the numbers that hold them. Memory is the only reason for an error.
+    /// The records of all chains, by the numbers that hold them. Memory is the only reason for an
+    /// error.
     pub fn records(&self) -> Result<Seq<Held>, Memory>
         ensures records { IfOk result (λ records. records ≡ all_records self.now.chains) }
         ensures sound { IsSound self.now.chains self.now.dead }

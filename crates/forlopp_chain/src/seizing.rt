@@ -1,11 +1,13 @@
 // What a job does with its chain.
-ghost use Rattle.std.specs.Prelude.{◌≡◌, ◌<◌, ◌++◌, ◌∷◌, ◌↔◌, [], length, position, IfSome, IsTrue, if◌then◌else◌};
+ghost use Rattle.std.specs.Prelude.{◌≡◌, ◌<◌, ◌++◌, ◌∷◌, ◌↔◌, [], length, position, IfSome, IsTrue};
+ghost use Rattle.std.specs.Prelude.{if◌then◌else◌};
 ghost use Rattle.job_types.specs.Chain.{holds, is_record, without};
 
 use job_types::{Chain, Held};
 use plex_limits::MOST_HELD;
 
-/// The chain gets a record, behind the others. False exactly where it has 64 records, and then it stays as it was.
+/// The chain gets a record, behind the others. False exactly where it has 64 records, and then it
+/// stays as it was.
 pub fn seize(chain: &mut Chain, held: Held) -> bool
     ensures room { IsTrue result ↔ (length chain.old < MOST_HELD) }
     ensures chain { chain.new ≡ (if result then chain.old ++ held ∷ [] else chain.old) }
@@ -17,7 +19,8 @@ pub fn seize(chain: &mut Chain, held: Held) -> bool
     true
 }
 
-/// The record leaves the chain, and the others keep their order. False exactly where the chain lacks the record.
+/// The record leaves the chain, and the others keep their order. False exactly where the chain
+/// lacks the record.
 pub fn free(chain: &mut Chain, held: Held) -> bool
     ensures held { result ≡ holds chain.old held.file held.number }
     ensures chain { chain.new ≡ without chain.old held.file held.number }

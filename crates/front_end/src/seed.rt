@@ -14,8 +14,8 @@ fn with_kind(seed: Seed, kind: EventKind<'_>) -> Seed {
     }
 }
 
-/// The seed of the tables of a text in which these events stand. It hangs on all names and numbers by which something is
-/// looked up, so that nobody can choose them to meet in a table.
+/// The seed of the tables of a text in which these events stand. It hangs on all names and numbers
+/// by which something is looked up, so that nobody can choose them to meet in a table.
 pub(crate) fn seed_of(parts: &[Seq<Event<'_>>]) -> Seed {
     let mut seed = Seed::new();
     for part in parts {

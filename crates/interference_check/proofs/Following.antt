@@ -15,7 +15,10 @@ use Rattle.pair_laws.proofs.Joining.{make_way, run_together}
 use Rattle.checked.specs.Kept.{IsChecked, KeptSummaries}
 use Rattle.interference_check.specs.Pairs.{OfPair}
 
-module _ (k : KeptSummaries) (one other : Summary) (a b : JobStart) (of_first : slice_get k.summaries a.job.entry ≡ Some one) (of_later : slice_get k.summaries b.job.entry ≡ Some other) (passes : Passes one other a b) (x : Exchange) (kept : IsExchange x) (checked : IsChecked x k) where
+module _ (k : KeptSummaries) (one other : Summary) (a b : JobStart)
+    (of_first : slice_get k.summaries a.job.entry ≡ Some one)
+    (of_later : slice_get k.summaries b.job.entry ≡ Some other) (passes : Passes one other a b) (x : Exchange)
+    (kept : IsExchange x) (checked : IsChecked x k) where
   first_told : IsSummary x (Contains checked.facts) a.job.entry one
   first_told = checked.by_facts.is a.job.entry one of_first
 
@@ -44,9 +47,12 @@ module _ (k : KeptSummaries) (one other : Summary) (a b : JobStart) (of_first : 
 
 -- the same, where a test tells whether they pass
 
-pub told_together : (k : KeptSummaries) (a b : JobStart) (r : Bool) → OfPair k a.job.entry b.job.entry (λ s t. IsTrue r ↔ Passes s t a b) → IsTrue r → (x : Exchange) (s : State)
-    → IsExchange x → IsChecked x k → IsValid x s → IsFitting x s a → IsFitting x s b → OfPair k a.job.entry b.job.entry (λ one other. RunTogether x s one other a b)
-told_together k a b r p told x s kept checked valid first_fits later_fits = runs k p.one p.other a b p.of_first p.of_later (p.holds.0 told) x kept checked s valid first_fits later_fits
+pub told_together : (k : KeptSummaries) (a b : JobStart) (r : Bool)
+    → OfPair k a.job.entry b.job.entry (λ s t. IsTrue r ↔ Passes s t a b) → IsTrue r → (x : Exchange) (s : State)
+    → IsExchange x → IsChecked x k → IsValid x s → IsFitting x s a → IsFitting x s b
+    → OfPair k a.job.entry b.job.entry (λ one other. RunTogether x s one other a b)
+told_together k a b r p told x s kept checked valid first_fits later_fits = runs k p.one p.other a b p.of_first
+    p.of_later (p.holds.0 told) x kept checked s valid first_fits later_fits
 
 pub told_way : (k : KeptSummaries) (a b : JobStart) (r : Bool) → OfPair k a.job.entry b.job.entry (λ s t. IsTrue r ↔ Passes s t a b) → IsTrue r → (x : Exchange)
     → IsExchange x → IsChecked x k → IsJob x b.job → MakesWay x a b

@@ -1,5 +1,6 @@
 -- A job stays within its permit.
-use Rattle.std.proofs.Common.{◌≡◌, ◌↔◌, ℕ, true, List, [], ◌∷◌, Some, Result, Ok, Err, IfOk, slice_get, subst}
+use Rattle.std.proofs.Common.{◌≡◌, ◌↔◌, ℕ, true, List, [], ◌∷◌, Some, Result, Ok, Err, IfOk}
+use Rattle.std.proofs.Common.{slice_get, subst}
 use Rattle.plex_num.specs.declared.seq.Memory.{Memory}
 use Rattle.std.specs.List.{AllByRecursion, Contains}
 use Rattle.job_types.specs.declared.job.JobStart.{JobStart}
@@ -29,11 +30,14 @@ module _ (x : Exchange) (m : Summary) (start : JobStart) (chains : ChainMap) (pe
   all_made (Load w v ∷ ts) all = ((is.reads w).1 all.0, all_made ts all.1)
   all_made (Store w v ∷ ts) all = ((is.writes w).1 all.0, all_made ts all.1)
 
-  pub stays_within : (k : KeptSummaries) → slice_get k.summaries start.job.entry ≡ Some m → IsExchange x → IsChecked x k → (s : State) → IsValid x s → IsFitting x s start → s.chains ≡ chains → OfEntry k start.job.entry (λ n. StaysWithin x n permit start s.store)
+  pub stays_within : (k : KeptSummaries) → slice_get k.summaries start.job.entry ≡ Some m → IsExchange x → IsChecked x k
+      → (s : State) → IsValid x s → IsFitting x s start → s.chains ≡ chains
+      → OfEntry k start.job.entry (λ n. StaysWithin x n permit start s.store)
   stays_within k there kept checked s valid fits same =
       let told : IsSummary x (Contains checked.facts) start.job.entry m = checked.by_facts.is start.job.entry m there in
       let stays = job_stays x kept (Contains checked.facts) checked.closed m s valid start fits told in
-      let permitted : ArePermitted x m start chains (trace_of x start s.store) = subst (λ (c : ChainMap). ArePermitted x m start c (trace_of x start s.store)) same stays.0 in
+      let permitted : ArePermitted x m start chains (trace_of x start s.store) = subst
+      (λ (c : ChainMap). ArePermitted x m start c (trace_of x start s.store)) same stays.0 in
       record {
         summary = m;
         there = there;
@@ -45,15 +49,19 @@ module _ (x : Exchange) (m : Summary) (start : JobStart) (chains : ChainMap) (pe
       }
 
 -- so it is of the permit, if it comes
-pub all_stay : (x : Exchange) → IsExchange x → (k : KeptSummaries) (m : Summary) (start : JobStart) (chains : ChainMap) → slice_get k.summaries start.job.entry ≡ Some m → (r : Result Permit Memory)
+pub all_stay : (x : Exchange) → IsExchange x → (k : KeptSummaries) (m : Summary) (start : JobStart) (chains : ChainMap)
+    → slice_get k.summaries start.job.entry ≡ Some m → (r : Result Permit Memory)
     → IfOk r (λ permit. (word : ℕ) → (may_read permit word ≡ true) ↔ MayRead x m start chains word)
     → IfOk r (λ permit. (word : ℕ) → (may_write permit word ≡ true) ↔ MayWrite x m start chains word)
-    → IfOk r (λ permit. (s : State) → IsChecked x k → IsValid x s → IsFitting x s start → s.chains ≡ chains → OfEntry k start.job.entry (λ n. StaysWithin x n permit start s.store))
-all_stay x kept k m start chains there (Ok permit) reads writes = λ s checked valid fits same. stays_within x m start chains permit (record { reads = reads; writes = writes }) k there kept checked s valid fits same
+    → IfOk r (λ permit. (s : State) → IsChecked x k → IsValid x s → IsFitting x s start → s.chains ≡ chains
+    → OfEntry k start.job.entry (λ n. StaysWithin x n permit start s.store))
+all_stay x kept k m start chains there (Ok permit) reads writes = λ s checked valid fits same. stays_within x m start
+    chains permit (record { reads = reads; writes = writes }) k there kept checked s valid fits same
 all_stay x kept k m start chains there (Err e) reads writes = tt
 
 -- it has just these words, if it comes
-pub all_exact : (x : Exchange) (k : KeptSummaries) (m : Summary) (start : JobStart) (chains : ChainMap) → slice_get k.summaries start.job.entry ≡ Some m → (r : Result Permit Memory)
+pub all_exact : (x : Exchange) (k : KeptSummaries) (m : Summary) (start : JobStart) (chains : ChainMap)
+    → slice_get k.summaries start.job.entry ≡ Some m → (r : Result Permit Memory)
     → IfOk r (λ permit. (word : ℕ) → (may_read permit word ≡ true) ↔ MayRead x m start chains word)
     → IfOk r (λ permit. (word : ℕ) → (may_write permit word ≡ true) ↔ MayWrite x m start chains word)
     → IfOk r (λ permit. OfEntry k start.job.entry (λ n. IsPermitOf x n start chains permit))

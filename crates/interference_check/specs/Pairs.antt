@@ -4,7 +4,8 @@ use Rattle.entry_summary.specs.declared.summary.Summary.{Summary}
 use Rattle.checked.specs.Kept.{KeptSummaries}
 
 -- both entries have a summary, and this holds of the two
-pub record OfPair (k : KeptSummaries) (first later : ℕ) (Holds : Summary → Summary → Type 0) : Type 0 where
+pub record OfPair (k : KeptSummaries) (first later : ℕ) (Holds : Summary → Summary → Type 0) : Type
+    0 where
   pub one : Summary
   pub other : Summary
   pub of_first : slice_get k.summaries first ≡ Some one

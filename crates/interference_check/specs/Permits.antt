@@ -23,13 +23,16 @@ pub record OfEntry (k : KeptSummaries) (entry : ℕ) (Holds : Summary → Type 0
   pub holds : Holds summary
 
 -- the permit has just the words that a job of this start may read, and those that it may write
-pub record IsPermitOf (x : Exchange) (m : Summary) (start : JobStart) (chains : ChainMap) (permit : Permit) : Type 0 where
+pub record IsPermitOf (x : Exchange) (m : Summary) (start : JobStart) (chains : ChainMap)
+    (permit : Permit) : Type 0 where
   pub reads : (word : ℕ) → (may_read permit word ≡ true) ↔ MayRead x m start chains word
   pub writes : (word : ℕ) → (may_write permit word ≡ true) ↔ MayWrite x m start chains word
 
--- the permit lets the job that begins so on these words make each of its touches; it sends to no levels but those of the summary, and
--- a fault ends it only if the summary says that it may
-pub record StaysWithin (x : Exchange) (m : Summary) (permit : Permit) (start : JobStart) (store : List ℕ) : Type 0 where
-  pub touches : AllByRecursion (MayMake (may_read permit) (may_write permit)) (trace_of x start store)
+-- the permit lets the job that begins so on these words make each of its touches; it sends to no
+-- levels but those of the summary, and a fault ends it only if the summary says that it may
+pub record StaysWithin (x : Exchange) (m : Summary) (permit : Permit) (start : JobStart)
+    (store : List ℕ) : Type 0 where
+  pub touches : AllByRecursion (MayMake (may_read permit) (may_write permit))
+      (trace_of x start store)
   pub levels : AreToLevels m (job x start store).own.sends
   pub fault : IsFaulted (done_by (job x start store)).outcome → m.fault ≡ true

@@ -1,5 +1,6 @@
 -- What a table tells of ordered pairs of entries.
-use Rattle.std.specs.Prelude.{◌≡◌, ◌↔◌, ℕ, ◌≤◌, List, ◌++◌, length, Some, IfSome, slice_get, slice_range}
+use Rattle.std.specs.Prelude.{◌≡◌, ◌↔◌, ℕ, ◌≤◌, List, ◌++◌, length, Some, IfSome, slice_get}
+use Rattle.std.specs.Prelude.{slice_range}
 use Rattle.std.specs.List.{Contains}
 use Rattle.entry_summary.specs.declared.summary.Summary.{Summary}
 use Rattle.pair_tests.specs.declared.pair.Test.{Test}
@@ -30,11 +31,13 @@ pub record IsTold (first later : Summary) (tests all : List Test) (pair : Pair) 
 
 -- what is told of two entries is so of their summaries, where something is
 abbrev pub IsRight : KeptSummaries → List Test → Told → Type 0
-IsRight k tests told = IfSome told.pair (λ pair. OfPair k told.first told.later (TellsTests tests pair))
+IsRight k tests told =
+    IfSome told.pair (λ pair. OfPair k told.first told.later (TellsTests tests pair))
 
 -- each pair that is kept is told right
 abbrev pub AreTold : KeptSummaries → List Told → List Test → Type 0
-AreTold k kept tests = (place : ℕ) (told : Told) → slice_get kept place ≡ Some told → IsRight k tests told
+AreTold k kept tests =
+    (place : ℕ) (told : Told) → slice_get kept place ≡ Some told → IsRight k tests told
 
 -- it is kept, and of these two entries
 pub record IsFound (kept : List Told) (first later : ℕ) (told : Told) : Type 0 where

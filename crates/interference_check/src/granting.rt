@@ -17,9 +17,10 @@ use start_permit::CellTable;
 use std::alloc::Global;
 use store_layout::Layout;
 
-/// The words that a job of this start may read and write, by the summary of its entry and by which records stand in the chains.
-/// The layout and the table are those of the exchange. Where the certificate is one of the exchange, the job stays within its permit
-/// in every valid state that has these chains and that the start fits. Memory is the only reason for an error.
+/// The words that a job of this start may read and write, by the summary of its entry and by which
+/// records stand in the chains. The layout and the table are those of the exchange. Where the
+/// certificate is one of the exchange, the job stays within its permit in every valid state that
+/// has these chains and that the start fits. Memory is the only reason for an error.
 pub fn permit(
     alloc: Global,
     exchange: &Exchange,

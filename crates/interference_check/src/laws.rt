@@ -8,7 +8,8 @@ ghost use Rattle.pair_laws.specs.Together.{HaveOwnWords};
 ghost use Rattle.source_meaning.specs.State.{State};
 ghost use Rattle.interference_check.specs.Permits.{IsPermitOf};
 
-/// The permits of two jobs that run together are apart: no word that one of them lets be written is in the other one.
+/// The permits of two jobs that run together are apart: no word that one of them lets be written is
+/// in the other one.
 pub fn permits_of_two_are_apart()
     ensures { (x : Exchange) (s : State) (first later : Summary) (a b : JobStart) (p q : Permit)
         → HaveOwnWords x s first later a b

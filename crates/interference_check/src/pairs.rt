@@ -19,8 +19,8 @@ use pair_tests::{Test, Verdict, passes, tests_of, verdict_of};
 use plex_num::{Memory, Seq};
 use std::alloc::Global;
 
-/// Whether jobs of two entries may run at once, the first before the later one in the single run: never, with the first conflict
-/// in order, or where tests hold.
+/// Whether jobs of two entries may run at once, the first before the later one in the single run:
+/// never, with the first conflict in order, or where tests hold.
 pub fn verdict(checked: &Checked, first: u32, later: u32) -> Verdict
     requires first { first < length checked.now.summaries }
     requires later { later < length checked.now.summaries }
@@ -40,9 +40,10 @@ pub fn tests(alloc: Global, checked: &Checked, first: u32, later: u32) -> Result
     tests_of(alloc, checked.summary(first), checked.summary(later))
 }
 
-/// Whether the later job may run at once with the first: the two do not conflict, pass all their tests, and are not of one
-/// forlopp. Where they do, and the certificate is one of the exchange, they run together in every valid state that both starts fit;
-/// and the first makes way to the later one wherever it begins.
+/// Whether the later job may run at once with the first: the two do not conflict, pass all their
+/// tests, and are not of one forlopp. Where they do, and the certificate is one of the exchange,
+/// they run together in every valid state that both starts fit; and the first makes way to the
+/// later one wherever it begins.
 pub fn may_follow(checked: &Checked, first: &JobStart, later: &JobStart) -> bool
     requires first { first.now.job.entry < length checked.now.summaries }
     requires later { later.now.job.entry < length checked.now.summaries }

@@ -1,5 +1,6 @@
 // What is told of pairs of entries, for whoever asks again and again.
-ghost use Rattle.std.specs.Prelude.{◌≡◌, ◌↔◌, ◌<◌, ◌≤◌, IfOk, IfSome, IsTrue, MatchOption, length, slice_range};
+ghost use Rattle.std.specs.Prelude.{◌≡◌, ◌↔◌, ◌<◌, ◌≤◌, IfOk, IfSome, IsTrue, MatchOption, length};
+ghost use Rattle.std.specs.Prelude.{slice_range};
 ghost use Rattle.entry_summary.specs.declared.summary.Summary.{Summary};
 ghost use Rattle.pair_tests.specs.Pairs.{Passes};
 ghost use Rattle.exchange_model.specs.declared.exchange.Exchange.{Exchange};
@@ -10,7 +11,8 @@ ghost use Rattle.order_laws.specs.Windows.{MakesWay};
 ghost use Rattle.pair_laws.specs.Together.{RunTogether};
 ghost use Rattle.checked.specs.Kept.{IsChecked};
 ghost use Rattle.interference_check.specs.Pairs.{OfPair};
-ghost use Rattle.interference_check.specs.Tables.{AreTold, HasTests, IsFound, IsRight, IsTold, TellsTests};
+ghost use Rattle.interference_check.specs.Tables.{AreTold, HasTests, IsFound, IsRight, IsTold};
+ghost use Rattle.interference_check.specs.Tables.{TellsTests};
 
 use crate::pairs::may_follow;
 use checked::Checked;

@@ -1,4 +1,5 @@
--- An instruction on common words, where its word has the value that the job's own run has left there.
+-- An instruction on common words, where its word has the value that the job's own run has left
+-- there.
 use Rattle.std.proofs.Common.{◌≡◌, inl, ℕ, suc, Bool, true, List, ◌++◌, None, refl, ap, ◌∙◌}
 use Rattle.std.specs.Prelude.{slice_index}
 use Rattle.std.specs.List.{AllByRecursion}
@@ -7,7 +8,8 @@ use Rattle.job_types.specs.Touches.{stored}
 use Rattle.machine_code.specs.declared.op.Op.{Op}
 use Rattle.source_meaning.specs.Traces.{IsTouched, touched_word}
 use Rattle.machine_meaning.specs.Private.{Private}
-use Rattle.machine_meaning.specs.Machine.{Apart, Loads, Machine, MayTouch, Reach, Stores, act, loaded, op_at, reach, stepped, untouched}
+use Rattle.machine_meaning.specs.Machine.{Apart, Loads, Machine, MayTouch, Reach, Stores, act}
+use Rattle.machine_meaning.specs.Machine.{loaded, op_at, reach, stepped, untouched}
 use Rattle.run_laws.specs.Alone.{alone, goes_on, makes, makes_unless}
 use Rattle.run_laws.proofs.Told.{is_touch, touch_of}
 
@@ -15,7 +17,9 @@ use Rattle.run_laws.proofs.Told.{is_touch, touch_of}
 abbrev pub next_touch : List Op → Machine → List Touch
 next_touch code m = touch_of (reach (op_at code m.run.pc) m.run) m.world.store
 
-loads_same : (r : Reach) (words store : List ℕ) → ((w : ℕ) → IsTouched (touch_of r store) w → slice_index words w ≡ slice_index store w) → loaded r words ≡ loaded r store
+loads_same : (r : Reach) (words store : List ℕ)
+    → ((w : ℕ) → IsTouched (touch_of r store) w → slice_index words w ≡ slice_index store w)
+    → loaded r words ≡ loaded r store
 loads_same Apart words store same = refl
 loads_same (Loads word) words store same = same word (inl refl)
 loads_same (Stores word value) words store same = refl
@@ -37,7 +41,9 @@ pub trace_more : (code : List Op) (m : Machine) → (makes code m).world.trace �
 trace_more code m = (is_touch m.world (reach (op_at code m.run.pc) m.run)).trace
 
 -- the instruction does what it does alone
-pub step_run : (code : List Op) (m : Machine) (words : List ℕ) → ((w : ℕ) → IsTouched (next_touch code m) w → slice_index words w ≡ slice_index m.world.store w) → (stepped code m.run words).run ≡ (makes code m).run
+pub step_run : (code : List Op) (m : Machine) (words : List ℕ)
+    → ((w : ℕ) → IsTouched (next_touch code m) w → slice_index words w ≡ slice_index m.world.store w)
+    → (stepped code m.run words).run ≡ (makes code m).run
 step_run code m words same = ap (λ v. act (op_at code m.run.pc) v m.run) (loads_same (reach (op_at code m.run.pc) m.run) words m.world.store same)
 
 -- and stores what it stores alone
@@ -47,7 +53,8 @@ step_words code m words =
     (is_touch (untouched words) r).store ∙ stores_same r words words m.world.store
 
 -- an instruction may be made whose touches may be made
-pub may_touch : (may : ℕ → Bool) (r : Reach) (store : List ℕ) → AllByRecursion (λ (t : Touch). may (touched_word t) ≡ true) (touch_of r store) → MayTouch may may r
+pub may_touch : (may : ℕ → Bool) (r : Reach) (store : List ℕ)
+    → AllByRecursion (λ (t : Touch). may (touched_word t) ≡ true) (touch_of r store) → MayTouch may may r
 may_touch may Apart store all = tt
 may_touch may (Loads word) store all = all.0
 may_touch may (Stores word value) store all = all.0

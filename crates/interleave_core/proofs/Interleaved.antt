@@ -1,4 +1,5 @@
--- Events from books and words of a valid state: each can be made, and they lead to what follows the single run.
+-- Events from books and words of a valid state: each can be made, and they lead to what follows the
+-- single run.
 use Rattle.std.proofs.Common.{◌≡◌, ℕ, List, MatchResult, Result, Ok, Err, refl}
 use Rattle.machine_code.specs.Coded.{Code}
 use Rattle.exchange_model.specs.declared.exchange.Exchange.{Exchange}
@@ -18,10 +19,14 @@ use Rattle.interleave_core.specs.Follows.{Interleaves}
 use Rattle.interleave_core.specs.Runs.{IsFault, LeadsTo, setting}
 use Rattle.interleave_core.specs.Safe.{StaysSafe}
 use Rattle.interleave_core.proofs.Certified.{pairs_give}
-use Rattle.interleave_core.proofs.Following.{Beside, follows_first, follows_runs, follows_single_run}
+use Rattle.interleave_core.proofs.Following.{Beside, follows_first, follows_runs}
+use Rattle.interleave_core.proofs.Following.{follows_single_run}
 use Rattle.interleave_core.proofs.Safety.{follows_stays_safe}
 
-module _ (x : Exchange) (code : Code) (facts : KeptSummaries) (workers : ℕ) (b : Account) (words : List ℕ) (kept : IsExchange x) (faithful : Faithful x code) (checked : IsChecked x facts) (valid : IsValid x (with_words b.state words)) (quiet : arrivals x (with_words b.state words) ≡ with_words b.state words) where
+module _ (x : Exchange) (code : Code) (facts : KeptSummaries) (workers : ℕ) (b : Account) (words : List ℕ)
+    (kept : IsExchange x) (faithful : Faithful x code) (checked : IsChecked x facts)
+    (valid : IsValid x (with_words b.state words))
+    (quiet : arrivals x (with_words b.state words) ≡ with_words b.state words) where
   abbrev first : State
   first = with_words b.state words
 
@@ -32,7 +37,8 @@ module _ (x : Exchange) (code : Code) (facts : KeptSummaries) (workers : ℕ) (b
   stays_safe =
       follows_stays_safe x kept code faithful facts (pairs_give x facts kept checked) checked.by_facts.each_entry first workers (opened_core b words) begins
 
-  led : (events : List CoreEvent) (s : CoreState) → LeadsTo (setting x code facts workers) b words events s → Interleaves (setting x code facts workers) b words events s
+  led : (events : List CoreEvent) (s : CoreState) → LeadsTo (setting x code facts workers) b words events s
+      → Interleaves (setting x code facts workers) b words events s
   led events s leads =
       let pairs = pairs_give x facts kept checked in
       record {
@@ -41,6 +47,10 @@ module _ (x : Exchange) (code : Code) (facts : KeptSummaries) (workers : ℕ) (b
             (follows_runs x kept code faithful facts pairs first workers events (opened_core b words) leads.core begins leads.runs);
       }
 
-  pub interleaves : (events : List CoreEvent) (r : Result CoreState CoreFault) → MatchResult r (LeadsTo (setting x code facts workers) b words events) (IsFault (setting x code facts workers) b words events) → MatchResult r (Interleaves (setting x code facts workers) b words events) (IsFault (setting x code facts workers) b words events)
+  pub interleaves : (events : List CoreEvent) (r : Result CoreState CoreFault)
+      → MatchResult r (LeadsTo (setting x code facts workers) b words events)
+      (IsFault (setting x code facts workers) b words events)
+      → MatchResult r (Interleaves (setting x code facts workers) b words events)
+      (IsFault (setting x code facts workers) b words events)
   interleaves events (Ok s) h = led events s h
   interleaves events (Err e) h = h

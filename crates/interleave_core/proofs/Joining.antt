@@ -1,5 +1,7 @@
--- Jobs that have begun one after the other, each of which has made some instructions on the common words, beside the single run.
-use Rattle.std.proofs.Common.{◌≡◌, ℕ, zero, suc, ◌+◌, ◌<◌, true, List, [], ◌∷◌, ◌++◌, length, map, Some, None, slice_get, refl, sym, ap, ◌∙◌, subst, arith}
+-- Jobs that have begun one after the other, each of which has made some instructions on the common
+-- words, beside the single run.
+use Rattle.std.proofs.Common.{◌≡◌, ℕ, zero, suc, ◌+◌, ◌<◌, true, List, [], ◌∷◌, ◌++◌, length, map}
+use Rattle.std.proofs.Common.{Some, None, slice_get, refl, sym, ap, ◌∙◌, subst, arith}
 use Rattle.std.proofs.lemmas.List.{append-nil, map-append, map-set}
 use Rattle.std.proofs.lemmas.Option.{none-some, same_Some}
 use Rattle.std.specs.Prelude.{IsSome, slice_index, slice_set}
@@ -39,7 +41,8 @@ use Rattle.order_laws.specs.Ends.{Spares, words_left}
 use Rattle.order_laws.specs.Keeps.{NoLineBefore}
 use Rattle.order_laws.specs.Picks.{all_begun}
 use Rattle.order_laws.specs.Windows.{IsWindow, MakesWay, done_by, jobs_of}
-use Rattle.order_laws.proofs.Following.{ahead_issue, ahead_retire, ahead_store, ahead_words, turn_store}
+use Rattle.order_laws.proofs.Following.{ahead_issue, ahead_retire, ahead_store, ahead_words}
+use Rattle.order_laws.proofs.Following.{turn_store}
 use Rattle.order_laws.proofs.Moving.{window_fits}
 use Rattle.order_laws.proofs.Starting.{next_over}
 use Rattle.order_laws.proofs.Wording.{over}
@@ -51,18 +54,20 @@ use Rattle.run_laws.proofs.Framed.{run_framed}
 use Rattle.run_laws.proofs.Going.{run_front, run_next, run_over}
 use Rattle.run_laws.proofs.Told.{run_told}
 use Rattle.interleave_core.specs.Follows.{AllApart, AreApart, one_after_other, own_run}
-use Rattle.interleave_core.proofs.Instructing.{alone_more, makes_more, may_touch, next_touch, step_run, step_words, trace_more}
+use Rattle.interleave_core.proofs.Instructing.{alone_more, makes_more, may_touch, next_touch}
+use Rattle.interleave_core.proofs.Instructing.{step_run, step_words, trace_more}
 use Rattle.interleave_core.proofs.Sharing.{Grown, grown, apart_fronts, leaves_all, touched_left}
 
 -- ## Two jobs that pass
 
--- what they give in a state that both fit: neither touches what the other one stores to, and the retirement of the first leaves
--- alone what the later one touches
+-- what they give in a state that both fit: neither touches what the other one stores to, and the
+-- retirement of the first leaves alone what the later one touches
 pub record PairGives (x : Exchange) (s : State) (a b : JobStart) : Type 0 where
   pub apart : AreApart (trace_of x a s.store) (trace_of x b s.store)
   pub released : LeavesAlone (retirement_touches x (done_by (job x a s.store))) (trace_of x b s.store)
 
--- so it is of each two that pass, in every valid state, and the first makes way to the later one wherever it begins
+-- so it is of each two that pass, in every valid state, and the first makes way to the later one
+-- wherever it begins
 pub record PairsGive (x : Exchange) (Pass : JobStart → JobStart → Type 0) : Type 0 where
   pub way : (a b : JobStart) → IsJob x b.job → Pass a b → MakesWay x a b
   pub gives : (a b : JobStart) → Pass a b → (s : State) → IsValid x s → IsFitting x s a → IsFitting x s b → PairGives x s a b
@@ -96,8 +101,8 @@ beginning start = record { start = start; made = 0 }
 abbrev pub one_more : Progress → Progress
 one_more j = record { start = j.start; made = suc j.made }
 
--- the books are ahead of the single run by these jobs, each two of which pass, and the words are those of the single run with all
--- that their own runs alone have stored so far
+-- the books are ahead of the single run by these jobs, each two of which pass, and the words are
+-- those of the single run with all that their own runs alone have stored so far
 pub record Shares (x : Exchange) (code : Code) (Pass : JobStart → JobStart → Type 0) (s : State) (js : List Progress) (books : State) : Type 0 where
   pub valid : IsValid x s
   pub ahead : AreAhead x s (starts_of js) books
@@ -106,11 +111,13 @@ pub record Shares (x : Exchange) (code : Code) (Pass : JobStart → JobStart →
 
 -- ## Lists of jobs
 
-pass_more : (Pass : JobStart → JobStart → Type 0) (starts : List JobStart) (start : JobStart) → AllPass Pass starts → AllByRecursion (λ (older : JobStart). Pass older start) starts → AllPass Pass (starts ++ start ∷ [])
+pass_more : (Pass : JobStart → JobStart → Type 0) (starts : List JobStart) (start : JobStart) → AllPass Pass starts
+    → AllByRecursion (λ (older : JobStart). Pass older start) starts → AllPass Pass (starts ++ start ∷ [])
 pass_more Pass [] start all new = (tt, tt)
 pass_more Pass (a ∷ rest) start all new = (all_append (Pass a) rest (start ∷ []) all.0 (new.0, tt), pass_more Pass rest start all.1 new.1)
 
-touches_issue : (code : Code) (base : List ℕ) (js : List Progress) (start : JobStart) → one_after_other (touches_of code base (js ++ beginning start ∷ [])) ≡ one_after_other (touches_of code base js)
+touches_issue : (code : Code) (base : List ℕ) (js : List Progress) (start : JobStart)
+    → one_after_other (touches_of code base (js ++ beginning start ∷ [])) ≡ one_after_other (touches_of code base js)
 unfolding alone
 touches_issue code base [] start = refl
 touches_issue code base (j ∷ js) start = ap (λ ts. (run_of code base j).world.trace ++ ts) (touches_issue code base js start)
@@ -120,7 +127,8 @@ starts_step [] place j at = absurd (none-some j at)
 starts_step (k ∷ js) zero j at = ap (λ (i : Progress). i.start ∷ starts_of js) (sym (same_Some k j at))
 starts_step (k ∷ js) (suc n) j at = ap (λ starts. k.start ∷ starts) (starts_step js n j at)
 
-touches_at : (code : Code) (base : List ℕ) (js : List Progress) (place : ℕ) (j : Progress) → slice_get js place ≡ Some j → slice_get (touches_of code base js) place ≡ Some (run_of code base j).world.trace
+touches_at : (code : Code) (base : List ℕ) (js : List Progress) (place : ℕ) (j : Progress) → slice_get js place ≡ Some j
+    → slice_get (touches_of code base js) place ≡ Some (run_of code base j).world.trace
 touches_at code base [] place j at = absurd (none-some j at)
 touches_at code base (k ∷ js) zero j at = ap (λ (i : Progress). Some (run_of code base i).world.trace) (same_Some k j at)
 touches_at code base (k ∷ js) (suc n) j at = touches_at code base js n j at
@@ -137,7 +145,8 @@ all_map_same f g (j ∷ js) all = ap (λ y. y ∷ map f js) all.0 ∙ ap (λ ys.
 -- ## Ends
 
 -- what the retirement of a job that spares a later one does to any words
-left_is : (x : Exchange) (own : ℕ) (o : Outcome) (chain : List Held) (chains : ChainMap) (words : List ℕ) (later : ℕ) → Spares later own o → words_left x own o chain chains words ≡ stored words (ended_touches x o chain)
+left_is : (x : Exchange) (own : ℕ) (o : Outcome) (chain : List Held) (chains : ChainMap) (words : List ℕ) (later : ℕ)
+    → Spares later own o → words_left x own o chain chains words ≡ stored words (ended_touches x o chain)
 left_is x own Ended chain chains words later spares = refl
 left_is x zero (Faulted f point) chain chains words later spares = absurd (spares.0 refl)
 left_is x (suc n) (Faulted f point) chain chains words later spares = release_stored x chain words
@@ -158,7 +167,8 @@ begun_all_valid x [] s v = v
 begun_all_valid x (j ∷ js) s v = begun_all_valid x js (begun s) (begun_valid x s v)
 
 -- the next job of the books is one of the exchange
-pub next_is_job : (x : Exchange) (s : State) (starts : List JobStart) (books : State) (start : JobStart) → IsValid x s → AreAhead x s starts books → next_start books ≡ Some start → IsJob x start.job
+pub next_is_job : (x : Exchange) (s : State) (starts : List JobStart) (books : State) (start : JobStart) → IsValid x s
+    → AreAhead x s starts books → next_start books ≡ Some start → IsJob x start.job
 next_is_job x s starts books start v ahead is =
     let t = all_begun (jobs_of starts) s in
     let next : next_start t ≡ Some start = sym (next_over t books.store) ∙ ap next_start (sym ahead.same) ∙ is in
@@ -172,8 +182,10 @@ pub record IsFront (a b : List Touch) : Type 0 where
   pub more : List Touch
   pub is : b ≡ a ++ more
 
--- the instruction on the common words is the next one of the own run, and the jobs still share the words
-pub record Steps (x : Exchange) (code : Code) (Pass : JobStart → JobStart → Type 0) (s : State) (js : List Progress) (place : ℕ) (j : Progress) (books : State) : Type 0 where
+-- the instruction on the common words is the next one of the own run, and the jobs still share the
+-- words
+pub record Steps (x : Exchange) (code : Code) (Pass : JobStart → JobStart → Type 0) (s : State) (js : List Progress)
+    (place : ℕ) (j : Progress) (books : State) : Type 0 where
   pub run : (stepped code.ops (run_of code s.store j).run books.store).run ≡ (run_of code s.store (one_more j)).run
   pub shares : Shares x code Pass s (slice_set js place (one_more j)) (over (stepped code.ops (run_of code s.store j).run books.store).world.store books)
 
@@ -182,8 +194,10 @@ pub record MovesOn (code : Code) (base now : List ℕ) (j : Progress) : Type 0 w
   pub agree : AgreeOn (run_of code base j).world.trace base now
   pub same : run_of code now j ≡ on_words now (run_of code base j)
 
--- the oldest job is at the end that it has in the single run, and the others share the words of the next state
-pub record Retires (x : Exchange) (code : Code) (Pass : JobStart → JobStart → Type 0) (s : State) (j : Progress) (js : List Progress) (books : State) : Type 0 where
+-- the oldest job is at the end that it has in the single run, and the others share the words of the
+-- next state
+pub record Retires (x : Exchange) (code : Code) (Pass : JobStart → JobStart → Type 0) (s : State) (j : Progress)
+    (js : List Progress) (books : State) : Type 0 where
   pub done : done_of (run_of code s.store j).run.own (run_of code s.store j).run.over ≡ done_by (job x j.start s.store)
   pub shares : Shares x code Pass (turn x s) js (settles x j.start (done_by (job x j.start s.store)) (starts_of js) books)
   pub moves : AllByRecursion (MovesOn code s.store (turn x s).store) js
@@ -214,7 +228,9 @@ module _ (x : Exchange) (kept : IsExchange x) (code : Code) (faithful : Faithful
         apart_fronts (trace j) (trace k) fj.more fk.more
         (subst (λ ts. AreApart ts (trace k ++ fk.more)) fj.is (subst (λ ts. AreApart (trace_of x j.start s.store) ts) fk.is g.apart))
 
-    one_apart : (j : Progress) (js : List Progress) → Fits j.start → AllByRecursion Fits (starts_of js) → AllByRecursion (Pass j.start) (starts_of js) → AllByRecursion (AreApart (trace j)) (touches_of code s.store js)
+    one_apart : (j : Progress) (js : List Progress) → Fits j.start → AllByRecursion Fits (starts_of js)
+        → AllByRecursion (Pass j.start) (starts_of js)
+        → AllByRecursion (AreApart (trace j)) (touches_of code s.store js)
     one_apart j [] one fits pass = tt
     one_apart j (k ∷ js) one fits pass = (two_apart j k one fits.0 pass.0, one_apart j js one fits.1 pass.1)
 
@@ -263,11 +279,14 @@ module _ (x : Exchange) (kept : IsExchange x) (code : Code) (faithful : Faithful
             same = run_framed k.made code.ops (started code k.start) s.store now (agree_answers (trace k) s.store now agree.long agree.same told.loads);
           }
 
-      pub all_move_on : (js : List Progress) (rest : List JobStart) → AllByRecursion Fits (starts_of js) → AllByRecursion (Pass a) (starts_of js) → IsWindow x s (a ∷ rest) → AllByRecursion (MovesOn code s.store (turn x s).store) js
+      pub all_move_on : (js : List Progress) (rest : List JobStart) → AllByRecursion Fits (starts_of js)
+          → AllByRecursion (Pass a) (starts_of js) → IsWindow x s (a ∷ rest)
+          → AllByRecursion (MovesOn code s.store (turn x s).store) js
       all_move_on [] rest fits pass w = tt
       all_move_on (k ∷ js) rest fits pass w = (moves_on k rest fits.0 pass.0 w, all_move_on js rest fits.1 pass.1 w)
 
-      released_from : (js : List Progress) → AllByRecursion Fits (starts_of js) → AllByRecursion (Pass a) (starts_of js) → AllByRecursion (LeavesAlone releases) (touches_of code s.store js)
+      released_from : (js : List Progress) → AllByRecursion Fits (starts_of js) → AllByRecursion (Pass a) (starts_of js)
+          → AllByRecursion (LeavesAlone releases) (touches_of code s.store js)
       released_from [] fits pass = tt
       released_from (k ∷ js) fits pass =
           let g = pairs.gives a k.start pass.0 s v fits_a fits.0 in
@@ -278,16 +297,21 @@ module _ (x : Exchange) (kept : IsExchange x) (code : Code) (faithful : Faithful
   pub touches_move : (base now : List ℕ) (js : List Progress) → AllByRecursion (MovesOn code base now) js → touches_of code now js ≡ touches_of code base js
   touches_move base now js all =
       all_map_same (λ j. (run_of code now j).world.trace) (λ j. (run_of code base j).world.trace) js
-      (all_weaker (MovesOn code base now) (λ j. (run_of code now j).world.trace ≡ (run_of code base j).world.trace) js (λ j m. ap (λ (q : Machine). q.world.trace) m.same) all)
+      (all_weaker (MovesOn code base now) (λ j. (run_of code now j).world.trace ≡ (run_of code base j).world.trace) js
+      (λ j m. ap (λ (q : Machine). q.world.trace) m.same) all)
 
   -- ## Issue
 
-  pub issue : (s : State) (js : List Progress) (books : State) (start : JobStart) → Here s js books → next_start books ≡ Some start → AllByRecursion (λ (older : JobStart). Pass older start) (starts_of js) → NoLineBefore (books.ended + length (starts_of js) + 1) books.lines → Here s (js ++ beginning start ∷ []) (begun books)
+  pub issue : (s : State) (js : List Progress) (books : State) (start : JobStart) → Here s js books
+      → next_start books ≡ Some start → AllByRecursion (λ (older : JobStart). Pass older start) (starts_of js)
+      → NoLineBefore (books.ended + length (starts_of js) + 1) books.lines
+      → Here s (js ++ beginning start ∷ []) (begun books)
   issue s js books start h next new line =
       let starts = starts_of js in
       let more : starts_of (js ++ beginning start ∷ []) ≡ starts ++ start ∷ [] = map-append (λ (j : Progress). j.start) js (beginning start ∷ []) in
       let is_job = next_is_job x s starts books start h.valid h.ahead next in
-      let ways = all_weaker (λ (older : JobStart). Pass older start) (λ (older : JobStart). MakesWay x older start) starts (λ older p. pairs.way older start is_job p) new in
+      let ways = all_weaker (λ (older : JobStart). Pass older start) (λ (older : JobStart). MakesWay x older start)
+      starts (λ older p. pairs.way older start is_job p) new in
       record {
         valid = h.valid;
         ahead = subst (λ all. AreAhead x s all (begun books)) (sym more) (ahead_issue x s starts books start h.ahead next ways line);
@@ -325,7 +349,8 @@ module _ (x : Exchange) (kept : IsExchange x) (code : Code) (faithful : Faithful
           all_apart s h.valid js' (subst (AllByRecursion (IsFitting x s)) (sym starts) all_fit) (subst (AllPass Pass) (sym starts) h.passes)
 
       grows : Grown s.store (touches_of code s.store js) place m.world.trace more
-      grows = grown (touches_of code s.store js) s.store place m.world.trace more (touches_at code s.store js place j at) (subst AllApart touches_step apart_step)
+      grows = grown (touches_of code s.store js) s.store place m.world.trace more
+          (touches_at code s.store js place j at) (subst AllApart touches_step apart_step)
 
       told : IsTold s.store m
       told = run_told j.made code.ops (started code j.start) s.store
@@ -339,7 +364,8 @@ module _ (x : Exchange) (kept : IsExchange x) (code : Code) (faithful : Faithful
             run = step_run code.ops m books.store found ∙ sym (ap (λ (q : Machine). q.run) run_more);
             shares = record {
               valid = h.valid;
-              ahead = subst (λ starts. AreAhead x s starts (over now books)) (sym (starts_step js place j at)) (ahead_words x s (starts_of js) books now h.ahead);
+              ahead = subst (λ starts. AreAhead x s starts (over now books)) (sym (starts_step js place j at))
+                  (ahead_words x s (starts_of js) books now h.ahead);
               passes = subst (AllPass Pass) (sym (starts_step js place j at)) h.passes;
               words = step_words code.ops m books.store
                   ∙ ap (λ l. stored l more) h.words
@@ -361,7 +387,8 @@ module _ (x : Exchange) (kept : IsExchange x) (code : Code) (faithful : Faithful
           sym (ap (λ (w : World). w.trace) r.means.world) ∙ can.grows.is ∙ ap (λ ts. ts ++ can.grows.touches) (trace_more code.ops m) in
           let inside : AllByRecursion (λ (t : Touch). touched_word t < x.cells) ((m.world.trace ++ more) ++ can.grows.touches) =
           subst (AllByRecursion (λ (t : Touch). touched_word t < x.cells)) all (touches_inside x kept j.start s.store) in
-          let near = all_right (λ (t : Touch). touched_word t < x.cells) m.world.trace more (all_left (λ (t : Touch). touched_word t < x.cells) (m.world.trace ++ more) can.grows.touches inside) in
+          let near = all_right (λ (t : Touch). touched_word t < x.cells) m.world.trace more
+          (all_left (λ (t : Touch). touched_word t < x.cells) (m.world.trace ++ more) can.grows.touches inside) in
           record {
             within = can.within;
             allowed = can.allowed;
@@ -372,10 +399,13 @@ module _ (x : Exchange) (kept : IsExchange x) (code : Code) (faithful : Faithful
 
   -- ## Retire
 
-  words_retired : (s : State) (j : Progress) (js : List Progress) (books : State) (h : Shares x code Pass s (j ∷ js) books) → IsSome (run_of code s.store j).run.over → AllByRecursion (MovesOn code s.store (turn x s).store) js
+  words_retired : (s : State) (j : Progress) (js : List Progress) (books : State)
+      (h : Shares x code Pass s (j ∷ js) books) → IsSome (run_of code s.store j).run.over
+      → AllByRecursion (MovesOn code s.store (turn x s).store) js
       → (run_of code s.store j).world.trace ≡ trace_of x j.start s.store
       → AllByRecursion (IsFitting x s) (j.start ∷ starts_of js)
-      → (settles x j.start (done_by (job x j.start s.store)) (starts_of js) books).store ≡ stored (turn x s).store (one_after_other (touches_of code (turn x s).store js))
+      → (settles x j.start (done_by (job x j.start s.store)) (starts_of js) books).store
+      ≡ stored (turn x s).store (one_after_other (touches_of code (turn x s).store js))
   words_retired s j [] books h over_now all trace_is fits =
       let done = done_by (job x j.start s.store) in
       let m = run_of code s.store j in
@@ -393,10 +423,12 @@ module _ (x : Exchange) (kept : IsExchange x) (code : Code) (faithful : Faithful
       let alone_by : LeavesAlone back others =
       leaves_all back (touches_of code s.store js) (released_from s h.valid j.start fits.0 js fits.1 h.passes.0) in
       ahead_store x s h.valid j.start (starts_of js) books h.ahead
-      ∙ left_is x j.start.job.forlopp done.outcome done.chain s.chains books.store k.start.job.forlopp (spares_later s h.valid j.start fits.0 k.start fits.1.0 h.passes.0.0)
+      ∙ left_is x j.start.job.forlopp done.outcome done.chain s.chains books.store k.start.job.forlopp
+      (spares_later s h.valid j.start fits.0 k.start fits.1.0 h.passes.0.0)
       ∙ ap (λ l. stored l back) (h.words ∙ stored-append m.world.trace others s.store ∙ ap (λ ts. stored (stored s.store ts) others) trace_is)
       ∙ lists_past others back (stored s.store full) alone_by
-      ∙ ap (λ l. stored l others) (sym (stored-append full back s.store) ∙ sym (turn_words s h.valid j.start fits.0 k.start (starts_of js) fits.1.0 h.passes.0.0 h.ahead.window))
+      ∙ ap (λ l. stored l others) (sym (stored-append full back s.store)
+      ∙ sym (turn_words s h.valid j.start fits.0 k.start (starts_of js) fits.1.0 h.passes.0.0 h.ahead.window))
       ∙ ap (λ tss. stored (turn x s).store (one_after_other tss)) (sym (touches_move s.store (turn x s).store js all))
 
   module _ (s : State) (j : Progress) (js : List Progress) (books : State) (h : Shares x code Pass s (j ∷ js) books) where

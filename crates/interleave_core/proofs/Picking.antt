@@ -1,5 +1,6 @@
 -- The next job of books, which stand for a state whatever words are beside them.
-use Rattle.std.proofs.Common.{◌≡◌, ℕ, zero, suc, ◌+◌, ◌<◌, Bool, true, false, List, Option, Some, None, refl, ap, ◌∙◌, if◌then◌else◌}
+use Rattle.std.proofs.Common.{◌≡◌, ℕ, zero, suc, ◌+◌, ◌<◌, Bool, true, false, List, Option, Some}
+use Rattle.std.proofs.Common.{None, refl, ap, ◌∙◌, if◌then◌else◌}
 use Rattle.std.proofs.lemmas.Bool.{lt-ltb, ltb-true}
 use Rattle.std.specs.Prelude.{nat_lt}
 use Rattle.std.specs.Option.{option_map}
@@ -22,7 +23,8 @@ next_with s w = by (pick s.waiting)
     begin : Job → List Held → JobStart
     begin j chain = record { job = j; chain = chain }
 
-    by : (o : Option Job) → (if has_stopped s then None else option_map (λ j. start_of j (with_words s w)) o) ≡ (if has_stopped s then None else option_map (λ j. start_of j s) o)
+    by : (o : Option Job) → (if has_stopped s then None else option_map (λ j. start_of j (with_words s w)) o)
+        ≡ (if has_stopped s then None else option_map (λ j. start_of j s) o)
     by None = refl
     by (Some j) = ap (λ chain. if has_stopped s then None else Some (begin j chain)) (chain_with s w j.forlopp)
 
@@ -30,7 +32,9 @@ next_with s w = by (pick s.waiting)
 pub upcoming_parts : (b : Account) (start : JobStart) → upcoming b ≡ Some start → (b.state.ended + b.running < b.limit) × (next_start b.state ≡ Some start)
 upcoming_parts b start is = by (nat_lt (b.state.ended + b.running) b.limit) refl is
   where
-    by : (t : Bool) → nat_lt (b.state.ended + b.running) b.limit ≡ t → (if t then next_start b.state else None) ≡ Some start → (b.state.ended + b.running < b.limit) × (next_start b.state ≡ Some start)
+    by : (t : Bool) → nat_lt (b.state.ended + b.running) b.limit ≡ t
+        → (if t then next_start b.state else None) ≡ Some start
+        → (b.state.ended + b.running < b.limit) × (next_start b.state ≡ Some start)
     by true lt e = (ltb-true (b.state.ended + b.running) b.limit lt, e)
     by false lt e = cc
 

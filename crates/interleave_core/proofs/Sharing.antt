@@ -1,5 +1,6 @@
 -- Words that several jobs share, each of which leaves alone what the others touch.
-use Rattle.std.proofs.Common.{◌≡◌, inl, inr, ◌⊎◌, ⊎_elim, ℕ, zero, suc, List, [], ◌∷◌, ◌++◌, Some, slice_get, sym, ap, ◌∙◌, subst}
+use Rattle.std.proofs.Common.{◌≡◌, inl, inr, ◌⊎◌, ⊎_elim, ℕ, zero, suc, List, [], ◌∷◌, ◌++◌, Some}
+use Rattle.std.proofs.Common.{slice_get, sym, ap, ◌∙◌, subst}
 use Rattle.std.proofs.lemmas.Option.{none-some, same_Some}
 use Rattle.std.specs.Prelude.{slice_index, slice_set}
 use Rattle.std.specs.List.{AllByRecursion}
@@ -62,7 +63,8 @@ at_place P [] n x y at all = absurd (none-some x at)
 at_place P (z ∷ xs) zero x y at all = all.0
 at_place P (z ∷ xs) (suc n) x y at all = at_place P xs n x y at all.1
 
--- one of several lists grows: its new stores may as well come last, and they find what the list alone has left
+-- one of several lists grows: its new stores may as well come last, and they find what the list
+-- alone has left
 pub record Grown (base : List ℕ) (tss : List (List Touch)) (place : ℕ) (ts more : List Touch) : Type 0 where
   pub words : stored (stored base (one_after_other tss)) more ≡ stored base (one_after_other (slice_set tss place (ts ++ more)))
   pub own : (w : ℕ) → IsTouched more w → slice_index (stored base (one_after_other tss)) w ≡ slice_index (stored base ts) w
@@ -79,7 +81,8 @@ grown_first tss base ts more apart =
       own = λ w at. ap (λ l. slice_index l w) (stored-append ts rest base) ∙ stored-kept rest (stored base ts) w (others w at);
     }
 
-pub grown : (tss : List (List Touch)) (base : List ℕ) (place : ℕ) (ts more : List Touch) → slice_get tss place ≡ Some ts → AllApart (slice_set tss place (ts ++ more)) → Grown base tss place ts more
+pub grown : (tss : List (List Touch)) (base : List ℕ) (place : ℕ) (ts more : List Touch) → slice_get tss place ≡ Some ts
+    → AllApart (slice_set tss place (ts ++ more)) → Grown base tss place ts more
 grown [] base place ts more at apart = absurd (none-some ts at)
 grown (us ∷ tss) base zero ts more at apart =
     subst (λ vs. Grown base (vs ∷ tss) 0 ts more) (sym (same_Some us ts at)) (grown_first tss base ts more apart.0)

@@ -1,5 +1,6 @@
 -- Which events are allowed in a core, and the core after one that is.
-use Rattle.std.specs.Prelude.{◌≡◌, ℕ, ◌+◌, ◌<◌, List, ◌∷◌, length, slice_get, Option, Some, None, IsSome}
+use Rattle.std.specs.Prelude.{◌≡◌, ℕ, ◌+◌, ◌<◌, List, ◌∷◌, length, slice_get, Option, Some, None}
+use Rattle.std.specs.Prelude.{IsSome}
 use Rattle.std.specs.List.{AllByRecursion}
 use Rattle.job_types.specs.declared.job.JobStart.{JobStart}
 use Rattle.machine_code.specs.Coded.{Code}
@@ -16,15 +17,17 @@ use Rattle.interleave_core.specs.Cores.{Core, begun_jobs, issues, lets_go, steps
 
 -- the later job passes all tests with the first, by what is kept of their entries
 abbrev pub MayFollow : KeptSummaries → JobStart → JobStart → Type 0
-MayFollow kept first later = OfPair kept first.job.entry later.job.entry (λ one other. Passes one other first later)
+MayFollow kept first later =
+    OfPair kept first.job.entry later.job.entry (λ one other. Passes one other first later)
 
 -- so many jobs are fewer than a line waits for, if there is one
 abbrev pub IsBefore : Option ℕ → ℕ → Type 0
 IsBefore None jobs = Unit {0}
 IsBefore (Some count) jobs = jobs < count
 
--- this is the next job, which the last restart lets begin; a worker is free; the limit lets one more job begin; the next line does not come
--- first; and the job passes all tests with each job of the window, which come before it
+-- this is the next job, which the last restart lets begin; a worker is free; the limit lets one
+-- more job begin; the next line does not come first; and the job passes all tests with each job of
+-- the window, which come before it
 pub record CanIssue (kept : KeptSummaries) (workers : ℕ) (c : Core) : Type 0 where
   pub start : JobStart
   pub picked : next_start c.state ≡ Some start
@@ -33,7 +36,8 @@ pub record CanIssue (kept : KeptSummaries) (workers : ℕ) (c : Core) : Type 0 w
   pub line : IsBefore (next_count c.state.lines) (begun_jobs c)
   pub follows : AllByRecursion (λ (older : WindowJob). MayFollow kept older.start start) c.window
 
--- the job of this number, in the order of issue from 1, stands at a place of the window, and has not ended
+-- the job of this number, in the order of issue from 1, stands at a place of the window, and has
+-- not ended
 pub record CanStep (c : Core) (number : ℕ) : Type 0 where
   pub place : ℕ
   pub job : WindowJob
@@ -54,7 +58,8 @@ IsAllowed kept workers c (Step job) = CanStep c job
 IsAllowed kept workers c Retire = CanRetire c
 
 -- the core after an event that is allowed
-abbrev pub after_event : (x : Exchange) (code : Code) (kept : KeptSummaries) (workers : ℕ) (c : Core) (e : CoreEvent) → IsAllowed kept workers c e → Core
+abbrev pub after_event : (x : Exchange) (code : Code) (kept : KeptSummaries) (workers : ℕ)
+    (c : Core) (e : CoreEvent) → IsAllowed kept workers c e → Core
 after_event x code kept workers c Issue can = issues code can.start c
 after_event x code kept workers c (Step job) can = steps code can.place can.job c
 after_event x code kept workers c Retire can = lets_go x can.oldest can.younger c

@@ -1,4 +1,5 @@
--- How a core follows the single run: who stands in its window, what their runs have done, and what the words are.
+-- How a core follows the single run: who stands in its window, what their runs have done, and what
+-- the words are.
 use Rattle.std.specs.Prelude.{◌≡◌, ℕ, ◌+◌, List, [], ◌∷◌, ◌++◌, Some, slice_index}
 use Rattle.std.specs.List.{AllByRecursion}
 use Rattle.job_types.specs.declared.job.JobStart.{JobStart}
@@ -38,9 +39,11 @@ one_after_other (ts ∷ rest) = ts ++ one_after_other rest
 abbrev pub own_run : Code → JobStart → ℕ → List ℕ → Machine
 own_run code start made words = alone made code.ops (started code start) words
 
--- the single run begins this job in this state; the job stands where it stands alone, begun on the words of the state, after as
--- many instructions as it has made; alone it has made these touches; and each word that it touched has the value that it has alone
-pub record IsPick (code : Code) (s : State) (words : List ℕ) (job : WindowJob) (touches : List Touch) : Type 0 where
+-- the single run begins this job in this state; the job stands where it stands alone, begun on the
+-- words of the state, after as many instructions as it has made; alone it has made these touches;
+-- and each word that it touched has the value that it has alone
+pub record IsPick (code : Code) (s : State) (words : List ℕ) (job : WindowJob)
+    (touches : List Touch) : Type 0 where
   pub next : next_start s ≡ Some job.start
   pub made : ℕ
   pub run : job.run ≡ (own_run code job.start made s.store).run
@@ -48,17 +51,20 @@ pub record IsPick (code : Code) (s : State) (words : List ℕ) (job : WindowJob)
   pub left : (w : ℕ) → IsTouched touches w
       → slice_index words w ≡ slice_index (own_run code job.start made s.store).world.store w
 
--- these are the jobs that the single run begins one after the other when n jobs have ended, with the touches of each
-abbrev pub AllPicks : Exchange → Code → State → List ℕ → ℕ → List WindowJob → List (List Touch) → Type 0
+-- these are the jobs that the single run begins one after the other when n jobs have ended, with
+-- the touches of each
+abbrev pub AllPicks : Exchange → Code → State → List ℕ → ℕ → List WindowJob → List (List Touch)
+    → Type 0
 AllPicks x code first words n [] [] = Unit {0}
 AllPicks x code first words n [] (ts ∷ tss) = ⊥
 AllPicks x code first words n (job ∷ jobs) [] = ⊥
 AllPicks x code first words n (job ∷ jobs) (ts ∷ tss) =
     IsPick code (after x first n) words job ts × AllPicks x code first words (n + 1) jobs tss
 
--- the single run from this first state, after as many jobs as have retired, has the events of the core, and begins the jobs of its
--- window next. No word to which one of these has stored is touched by another one. The words are those of the single run with all
--- stores of these jobs, so that one to which none has stored is as there. Where no job is left in the window, all is as there.
+-- the single run from this first state, after as many jobs as have retired, has the events of the
+-- core, and begins the jobs of its window next. No word to which one of these has stored is touched
+-- by another one. The words are those of the single run with all stores of these jobs, so that one
+-- to which none has stored is as there. Where no job is left in the window, all is as there.
 pub record FollowsSingleRun (x : Exchange) (code : Code) (first : State) (c : Core) : Type 0 where
   pub touches : List (List Touch)
   pub picks : AllPicks x code first c.state.store c.retired c.window touches
@@ -69,7 +75,9 @@ pub record FollowsSingleRun (x : Exchange) (code : Code) (first : State) (c : Co
   pub events : c.state.events ≡ (after x first c.retired).events
   pub empty : c.window ≡ [] → c.state ≡ after x first c.retired
 
--- the events lead from these books and words to what stands here, which follows the single run from their state
-pub record Interleaves (k : Setting) (b : Account) (words : List ℕ) (events : List CoreEvent) (s : CoreState) : Type 0 where
+-- the events lead from these books and words to what stands here, which follows the single run from
+-- their state
+pub record Interleaves (k : Setting) (b : Account) (words : List ℕ) (events : List CoreEvent)
+    (s : CoreState) : Type 0 where
   pub leads : LeadsTo k b words events s
   pub follows : FollowsSingleRun k.exchange k.code (with_words b.state words) leads.core

@@ -1,5 +1,6 @@
 -- What each function that makes an event leaves. No contract that a caller sees cites these words.
-use Rattle.std.specs.Prelude.{◌≡◌, ℕ, ◌+◌, ◌<◌, Bool, true, false, List, ◌∷◌, length, slice_get, slice_set, Some, None, IsSome}
+use Rattle.std.specs.Prelude.{◌≡◌, ℕ, ◌+◌, ◌<◌, Bool, true, false, List, ◌∷◌, length, slice_get}
+use Rattle.std.specs.Prelude.{slice_set, Some, None, IsSome}
 use Rattle.job_types.specs.declared.job.JobStart.{JobStart}
 use Rattle.job_types.specs.Own.{done_of}
 use Rattle.machine_code.specs.Coded.{Code}
@@ -41,15 +42,18 @@ pub record Steppable (code : List Op) (words : List ℕ) (job : WindowJob) : Typ
 
 -- the code has an address for the next job
 abbrev pub CanBegin : Code → RunningCore → Type 0
-CanBegin code r = (start : JobStart) → next_start r.books.state ≡ Some start → start.job.entry < length code.entries
+CanBegin code r = (start : JobStart) → next_start r.books.state ≡ Some start
+    → start.job.entry < length code.entries
 
 -- the job of this number may make its next instruction
 abbrev pub CanGoOn : Code → RunningCore → ℕ → Type 0
-CanGoOn code r number = (place : ℕ) (job : WindowJob) → r.retired + place + 1 ≡ number → slice_get r.window.items place ≡ Some job → Steppable code.ops r.words job
+CanGoOn code r number = (place : ℕ) (job : WindowJob) → r.retired + place + 1 ≡ number
+    → slice_get r.window.items place ≡ Some job → Steppable code.ops r.words job
 
 -- the oldest job has ended, and may retire
 abbrev pub CanGo : Exchange → RunningCore → Type 0
-CanGo x r = (oldest : WindowJob) (younger : List WindowJob) → r.window.items ≡ oldest ∷ younger → IsSome oldest.run.over × MayRetire x oldest r.books.state r.words
+CanGo x r = (oldest : WindowJob) (younger : List WindowJob) → r.window.items ≡ oldest ∷ younger
+    → IsSome oldest.run.over × MayRetire x oldest r.books.state r.words
 
 -- what is asked where an event is made
 abbrev pub CanMake : Exchange → Code → RunningCore → CoreEvent → Type 0
@@ -58,13 +62,18 @@ CanMake x code r (Step job) = CanGoOn code r job
 CanMake x code r Retire = CanGo x r
 
 -- the job at this place has made it
-pub record HasStepped (code : List Op) (place : ℕ) (job : WindowJob) (window window' : List WindowJob) (words words' : List ℕ) : Type 0 where
-  pub window_is : window' ≡ slice_set window place (record { start = job.start; run = (stepped code job.run words).run })
+pub record HasStepped (code : List Op) (place : ℕ) (job : WindowJob)
+    (window window' : List WindowJob) (words words' : List ℕ) : Type 0 where
+  pub window_is : window' ≡ slice_set window place
+      (record { start = job.start; run = (stepped code job.run words).run })
   pub words_are : words' ≡ (stepped code job.run words).world.store
 
 -- the oldest job has retired, and these are left
-pub record HasLeft (x : Exchange) (oldest : WindowJob) (younger : List WindowJob) (old new : RunningCore) : Type 0 where
-  pub state : with_words new.books.state new.words ≡ retires x oldest.start (done_of oldest.run.own oldest.run.over) (with_words old.books.state old.words)
+pub record HasLeft (x : Exchange) (oldest : WindowJob) (younger : List WindowJob)
+    (old new : RunningCore) : Type 0 where
+  pub state : with_words new.books.state new.words
+      ≡ retires x oldest.start (done_of oldest.run.own oldest.run.over)
+      (with_words old.books.state old.words)
   pub limit : new.books.limit ≡ old.books.limit
   pub running : new.books.running + 1 ≡ old.books.running
   pub window : new.window.items ≡ younger

@@ -11,7 +11,8 @@ use Rattle.interleave_core.specs.declared.window.CoreState.{CoreState}
 use Rattle.interleave_core.specs.Cores.{Core, Stands, opened_core}
 use Rattle.interleave_core.specs.Allowed.{IsAllowed, after_event}
 
--- what stays the same while events happen: the exchange and its code, what is kept of its certificate, and how many jobs may run at once
+-- what stays the same while events happen: the exchange and its code, what is kept of its
+-- certificate, and how many jobs may run at once
 pub record Setting : Type 0 where
   pub exchange : Exchange
   pub code : Code
@@ -27,7 +28,8 @@ Allows k c e = IsAllowed k.kept k.workers c e
 abbrev pub core_after : (k : Setting) (c : Core) (e : CoreEvent) → Allows k c e → Core
 core_after k c e can = after_event k.exchange k.code k.kept k.workers c e can
 
--- each of these events is allowed after those before it, and together they lead from one core to the other
+-- each of these events is allowed after those before it, and together they lead from one core to
+-- the other
 unfoldable pub Runs : Setting → List CoreEvent → Core → Core → Type 0
 Runs k [] c d = d ≡ c
 Runs k (e ∷ es) c d = (can : Allows k c e) × Runs k es (core_after k c e can) d
@@ -41,7 +43,8 @@ pub record IsRefusedAt (k : Setting) (events : List CoreEvent) (at : ℕ) (c : C
   pub refused : Allows k core event → ⊥
 
 -- the events lead from these books and words to what stands here
-pub record LeadsTo (k : Setting) (b : Account) (words : List ℕ) (events : List CoreEvent) (s : CoreState) : Type 0 where
+pub record LeadsTo (k : Setting) (b : Account) (words : List ℕ) (events : List CoreEvent)
+    (s : CoreState) : Type 0 where
   pub core : Core
   pub runs : Runs k events (opened_core b words) core
   pub stands : Stands core s

@@ -1,7 +1,8 @@
 -- In which cores each event that is allowed can be made.
 --
--- Whether an instruction is in its ranges, and whether a retirement stores to words that are there, cannot be seen of a core
--- alone: it follows from where the events began. So it is asked of each core to which events lead.
+-- Whether an instruction is in its ranges, and whether a retirement stores to words that are there,
+-- cannot be seen of a core alone: it follows from where the events began. So it is asked of each
+-- core to which events lead.
 use Rattle.std.specs.Prelude.{◌≡◌, ℕ, ◌<◌, List, ◌∷◌, length, slice_get, Some, None, IsSome}
 use Rattle.std.specs.List.{AllByRecursion}
 use Rattle.job_types.specs.declared.job.JobStart.{JobStart}
@@ -34,17 +35,24 @@ pub record HasEntry (code : Code) (kept : KeptSummaries) (start : JobStart) : Ty
 -- the forlopp of the job is none or live, and what its retirement stores to are words
 pub record MayRetire (x : Exchange) (job : WindowJob) (s : State) (words : List ℕ) : Type 0 where
   pub forlopp : MayBe s job.start.job.forlopp
-  pub stores : MayStore (is_word_of words) (retired_world x job.start (done_of job.run.own job.run.over) s words).trace
+  pub stores : MayStore (is_word_of words) (retired_world x job.start
+      (done_of job.run.own job.run.over) s words).trace
 
--- each event that is allowed in the core can be made: the next job can be tested and begun; each job of the window can be
--- tested and, if it has not ended, make its next instruction; and the oldest can retire, if it has ended, from books that
--- stand for the state, whatever they have for words
+-- each event that is allowed in the core can be made: the next job can be tested and begun; each
+-- job of the window can be tested and, if it has not ended, make its next instruction; and the
+-- oldest can retire, if it has ended, from books that stand for the state, whatever they have for
+-- words
 pub record IsSafe (x : Exchange) (code : Code) (kept : KeptSummaries) (c : Core) : Type 0 where
   pub pick : (start : JobStart) → next_start c.state ≡ Some start → HasEntry code kept start
   pub tests : AllByRecursion (λ (job : WindowJob). HasSummary kept job.start) c.window
-  pub steps : (place : ℕ) (job : WindowJob) → slice_get c.window place ≡ Some job → job.run.over ≡ None → MayStep code.ops (is_word_of c.state.store) (is_word_of c.state.store) job.run
-  pub retires : (oldest : WindowJob) (younger : List WindowJob) (s : State) → c.window ≡ oldest ∷ younger → IsSome oldest.run.over → with_words s c.state.store ≡ c.state → MayRetire x oldest s c.state.store
+  pub steps : (place : ℕ) (job : WindowJob) → slice_get c.window place ≡ Some job
+      → job.run.over ≡ None → MayStep code.ops (is_word_of c.state.store) (is_word_of c.state.store)
+      job.run
+  pub retires : (oldest : WindowJob) (younger : List WindowJob) (s : State)
+      → c.window ≡ oldest ∷ younger → IsSome oldest.run.over → with_words s c.state.store ≡ c.state
+      → MayRetire x oldest s c.state.store
 
 -- whatever events happen from here, each as it is allowed, the core to which they lead is such
 abbrev pub StaysSafe : Setting → Core → Type 0
-StaysSafe k c = (events : List CoreEvent) (d : Core) → Runs k events c d → IsSafe k.exchange k.code k.kept d
+StaysSafe k c = (events : List CoreEvent) (d : Core) → Runs k events c d
+    → IsSafe k.exchange k.code k.kept d

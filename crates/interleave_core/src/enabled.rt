@@ -4,7 +4,8 @@ ghost use Rattle.std.specs.List.{AllByRecursion};
 ghost use Rattle.job_types.specs.declared.job.JobStart.{JobStart as StartType};
 ghost use Rattle.source_meaning.specs.SingleRun.{next_start};
 ghost use Rattle.interleave_core.specs.declared.window.WindowJob.{WindowJob as JobType};
-ghost use Rattle.interleave_core.specs.Allowed.{CanIssue, CanRetire, CanStep, IsAllowed, IsBefore, MayFollow};
+ghost use Rattle.interleave_core.specs.Allowed.{CanIssue, CanRetire, CanStep, IsAllowed, IsBefore};
+ghost use Rattle.interleave_core.specs.Allowed.{MayFollow};
 ghost use Rattle.interleave_core.specs.Cores.{running_core};
 ghost use Rattle.interleave_core.specs.Safe.{HasSummary};
 
@@ -14,7 +15,8 @@ use checked::Checked;
 use interference_check::may_follow;
 use job_types::JobStart;
 
-/// Whether an event is allowed. The next job, and each one of the window, must be of an entry that has a summary.
+/// Whether an event is allowed. The next job, and each one of the window, must be of an entry that
+/// has a summary.
 pub(crate) fn enabled(core: &RunningCore, checked: &Checked, workers: u32, event: CoreEvent) -> bool
     requires running { core.now.books.running ≡ length core.now.window.items }
     requires pick { (start : StartType)

@@ -6,7 +6,8 @@ use plex_num::Memory;
 pub enum CoreEvent {
     /// The next job is issued: it waits no more, and stands last in the window.
     Issue,
-    /// A job of the window makes one instruction. `job` is its place in the order of issue since the events began, from 1.
+    /// A job of the window makes one instruction. `job` is its place in the order of issue since
+    /// the events began, from 1.
     Step { job: u64 },
     /// The oldest job of the window retires.
     Retire,
@@ -15,7 +16,8 @@ pub enum CoreEvent {
 /// Why there is nothing after some events.
 #[derive(Clone, Copy)]
 pub enum CoreFault {
-    /// The event at this place of the list, counted from 0, is not allowed after those before it, which are.
+    /// The event at this place of the list, counted from 0, is not allowed after those before it,
+    /// which are.
     NotEnabled { at: u64 },
     /// Memory was refused.
     Memory,

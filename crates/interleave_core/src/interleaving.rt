@@ -20,11 +20,13 @@ use run_books::Books;
 use std::alloc::Global;
 use store_layout::Layout;
 
-/// Makes these events one after the other, from books in which no job runs and these stored words, with so many jobs at most at
-/// once: what stands afterwards, or the first event that is not allowed. Books and words must be those of a valid state in which
-/// nothing arrives, and the code and the certificate those of the exchange. Then what stands afterwards follows the single run,
-/// whatever the events are: books and words are those that it has after as many jobs as have retired, but for the jobs of the window,
-/// which it begins next. Each of these has come as far as it does alone, and none has touched a word that another one has stored to.
+/// Makes these events one after the other, from books in which no job runs and these stored words,
+/// with so many jobs at most at once: what stands afterwards, or the first event that is not
+/// allowed. Books and words must be those of a valid state in which nothing arrives, and the code
+/// and the certificate those of the exchange. Then what stands afterwards follows the single run,
+/// whatever the events are: books and words are those that it has after as many jobs as have
+/// retired, but for the jobs of the window, which it begins next. Each of these has come as far as
+/// it does alone, and none has touched a word that another one has stored to.
 pub fn run_events(
     alloc: Global,
     exchange: &Exchange,

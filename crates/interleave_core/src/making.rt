@@ -1,5 +1,6 @@
 // Events are made.
-ghost use Rattle.std.specs.Prelude.{◌≡◌, ◌+◌, ◌<◌, ◌^◌, ◌∷◌, ◌++◌, [], ℕ, List, length, slice_get, Some, IfOk, OnOk};
+ghost use Rattle.std.specs.Prelude.{◌≡◌, ◌+◌, ◌<◌, ◌^◌, ◌∷◌, ◌++◌, [], ℕ, List, length, slice_get};
+ghost use Rattle.std.specs.Prelude.{Some, IfOk, OnOk};
 ghost use Rattle.job_types.specs.declared.job.JobStart.{JobStart as StartType};
 ghost use Rattle.run_books.specs.Accounts.{upcoming};
 ghost use Rattle.store_layout.specs.Laid.{IsLayout};
@@ -7,7 +8,8 @@ ghost use Rattle.checked.specs.Kept.{KeptSummaries};
 ghost use Rattle.interleave_core.specs.declared.window.WindowJob.{WindowJob as JobType};
 ghost use Rattle.interleave_core.specs.Allowed.{IsAllowed, after_event};
 ghost use Rattle.interleave_core.specs.Cores.{issues, lets_go, running_core, settles, steps};
-ghost use Rattle.interleave_core.specs.Making.{Becomes, CanBegin, CanGo, CanGoOn, CanMake, Happened, HasLeft, HasStepped, Steppable};
+ghost use Rattle.interleave_core.specs.Making.{Becomes, CanBegin, CanGo, CanGoOn, CanMake};
+ghost use Rattle.interleave_core.specs.Making.{Happened, HasLeft, HasStepped, Steppable};
 ghost use Rattle.interleave_core.specs.Runs.{setting};
 ghost use Rattle.interleave_core.specs.Safe.{IsSafe};
 
@@ -104,7 +106,8 @@ impl RunningCore {
         }
     }
 
-    /// The oldest job of the window retires, if there is one, and what is due arrives where no job runs any more.
+    /// The oldest job of the window retires, if there is one, and what is due arrives where no job
+    /// runs any more.
     fn retire(&mut self, exchange: &Exchange, layout: &Layout) -> Result<(), Memory>
         requires running { self.old.books.running ≡ length self.old.window.items }
         requires few { self.old.retired < 2 ^ 63 }

@@ -15,8 +15,8 @@ pub struct WindowJob {
     pub run: JobRun,
 }
 
-/// What stands after some events: the books, the stored words, and the jobs of the window, in the order in which they were
-/// issued.
+/// What stands after some events: the books, the stored words, and the jobs of the window, in the
+/// order in which they were issued.
 pub struct CoreState {
     pub books: Books,
     pub words: Seq<u32>,

@@ -1,5 +1,7 @@
 -- Which jobs of a list wait, after each change of the stays.
-use Rattle.std.proofs.Common.{◌≡◌, ℕ, zero, suc, ◌+◌, ◌-◌, ◌<◌, Bool, true, false, cond, not, eqb, ltb, List, [], ◌∷◌, ◌++◌, length, map, drop, count_by, Option, None, Some, unwrap_or, refl, sym, ap, subst, ◌∙◌, arith}
+use Rattle.std.proofs.Common.{◌≡◌, ℕ, zero, suc, ◌+◌, ◌-◌, ◌<◌, Bool, true, false, cond, not, eqb}
+use Rattle.std.proofs.Common.{ltb, List, [], ◌∷◌, ◌++◌, length, map, drop, count_by, Option, None}
+use Rattle.std.proofs.Common.{Some, unwrap_or, refl, sym, ap, subst, ◌∙◌, arith}
 use Rattle.std.specs.List.{filter, AllByRecursion, position_or_len}
 use Rattle.std.specs.Prelude.{position}
 use Rattle.std.proofs.lemmas.Bool.{eqb-true, eq-eqb, ne_eqb, ltb-false}
@@ -7,13 +9,15 @@ use Rattle.std.proofs.lemmas.Cmp.{nat_eq_equiv}
 use Rattle.std.proofs.lemmas.List.{map-append}
 use Rattle.std.proofs.lemmas.List.Elements.{filter-append}
 use Rattle.std.proofs.lemmas.List.Filters.{length-filter_both}
-use Rattle.std.proofs.lemmas.List.Sums.{length-filter, prefix_len-le-length, sum_by-cons, sum_by-append}
+use Rattle.std.proofs.lemmas.List.Sums.{length-filter, prefix_len-le-length, sum_by-cons}
+use Rattle.std.proofs.lemmas.List.Sums.{sum_by-append}
 use Rattle.plex_num.proofs.Lists.{all_append, all_drop}
 use Rattle.job_types.specs.declared.job.Job.{Job}
 use Rattle.job_types.specs.Waiting.{is_of, others_in}
 use Rattle.job_buffers.specs.declared.stays.Stay.{Stay}
 use Rattle.job_buffers.specs.declared.queue.Placed.{Placed}
-use Rattle.job_buffers.specs.Standing.{AreBefore, Fits, FrontCounts, IsBefore, IsTidied, counting, counts, is_stay, jobs_of, joined, left, updated}
+use Rattle.job_buffers.specs.Standing.{AreBefore, Fits, FrontCounts, IsBefore, IsTidied, counting}
+use Rattle.job_buffers.specs.Standing.{counts, is_stay, jobs_of, joined, left, updated}
 
 -- ---- counts of jobs
 
@@ -47,7 +51,8 @@ pub count_other : (f g : ℕ) (js : List Job) → eqb f g ≡ false → count_by
 count_other f g [] differ = refl
 count_other f g (j ∷ js) differ = at (is_of f j) refl (count_other f g js differ)
   where
-    at : (b : Bool) → is_of f j ≡ b → count_by (is_of g) (others_in f js) ≡ count_by (is_of g) js → count_by (is_of g) (cond (not b) (j ∷ others_in f js) (others_in f js)) ≡ count_by (is_of g) (j ∷ js)
+    at : (b : Bool) → is_of f j ≡ b → count_by (is_of g) (others_in f js) ≡ count_by (is_of g) js
+        → count_by (is_of g) (cond (not b) (j ∷ others_in f js) (others_in f js)) ≡ count_by (is_of g) (j ∷ js)
     at true e ih =
         let no : is_of g j ≡ false = ap (λ k. eqb k g) (eqb-true j.forlopp f e) ∙ differ in
         ih ∙ sym (count_cons g j js ∙ ap (λ b. cond b 1 0 + count_by (is_of g) js) no ∙ zero_plus (count_by (is_of g) js))
@@ -73,7 +78,8 @@ none_goes f (j ∷ js) none = at (is_of f j) refl (none_goes f js)
 -- ---- which placed jobs wait
 
 -- a change of the stay of one forlopp that no placed job of it can tell
-by_owner : (stays : ℕ → Option Stay) (f : ℕ) (o : Option Stay) (p : Placed) → is_stay p.stay o ≡ is_stay p.stay (stays f) → counts (updated f o stays) p ≡ counts stays p
+by_owner : (stays : ℕ → Option Stay) (f : ℕ) (o : Option Stay) (p : Placed)
+    → is_stay p.stay o ≡ is_stay p.stay (stays f) → counts (updated f o stays) p ≡ counts stays p
 by_owner stays f o p same = at (eqb f p.job.forlopp) refl
   where
     at : (b : Bool) → eqb f p.job.forlopp ≡ b → is_stay p.stay (cond b o (stays p.job.forlopp)) ≡ is_stay p.stay (stays p.job.forlopp)
@@ -99,9 +105,14 @@ joined_same : (o : Option Stay) (n s : ℕ) → s < n → is_stay s (Some (joine
 joined_same None n s lt = ne_eqb n s (λ is. absurd (omega arith))
 joined_same (Some t) n s lt = refl
 
-all_joined : (stays : ℕ → Option Stay) (f n : ℕ) (ps : List Placed) → AreBefore n ps → AllByRecursion (λ (p : Placed). counts (after_join stays f n) p ≡ counts stays p) ps
+all_joined : (stays : ℕ → Option Stay) (f n : ℕ) (ps : List Placed) → AreBefore n ps
+    → AllByRecursion (λ (p : Placed). counts (after_join stays f n) p ≡ counts stays p) ps
 all_joined stays f n [] before = tt
-all_joined stays f n (p ∷ ps) before = (by_owner stays f (Some (joined n (stays f))) p (joined_same (stays f) n p.stay before.0), all_joined stays f n ps before.1)
+all_joined stays f n (p ∷ ps) before = (
+  by_owner stays f (Some (joined n (stays f))) p
+      (joined_same (stays f) n p.stay before.0),
+  all_joined stays f n ps before.1,
+)
 
 newcomer_counts : (stays : ℕ → Option Stay) (n : ℕ) (j : Job) → counts (after_join stays j.forlopp n) (newcomer stays n j) ≡ true
 newcomer_counts stays n j =
@@ -131,7 +142,9 @@ later : (n : ℕ) (o : Option Stay) → IsBefore n o → IsBefore (n + 1) o
 later n None begun = tt
 later n (Some s) begun = let lt : s.number < n = begun in omega arith
 
-front_more : (s t : ℕ → Option Stay) (ps : List Placed) (p : Placed) → AllByRecursion (λ (p : Placed). counts s p ≡ counts t p) ps → FrontCounts t ps → counts s p ≡ true → FrontCounts s (ps ++ p ∷ [])
+front_more : (s t : ℕ → Option Stay) (ps : List Placed) (p : Placed)
+    → AllByRecursion (λ (p : Placed). counts s p ≡ counts t p) ps → FrontCounts t ps → counts s p ≡ true
+    → FrontCounts s (ps ++ p ∷ [])
 front_more s t [] p all front new = new
 front_more s t (x ∷ ps) p all front new = all.0 ∙ front
 
@@ -143,7 +156,8 @@ pub fits_joined : (stays : ℕ → Option Stay) (n : ℕ) (j : Job) (ps : List P
     → Fits (after_join stays j.forlopp n) (n + 1) (ps ++ newcomer stays n j ∷ [])
 fits_joined stays n j ps begun fits = record {
   before = all_append _ ps (newcomer stays n j ∷ []) (before_more n ps fits.before) (joined_number n (stays j.forlopp) begun, tt);
-  front = front_more (after_join stays j.forlopp n) stays ps (newcomer stays n j) (all_joined stays j.forlopp n ps fits.before) fits.front (newcomer_counts stays n j);
+  front = front_more (after_join stays j.forlopp n) stays ps (newcomer stays n j)
+      (all_joined stays j.forlopp n ps fits.before) fits.front (newcomer_counts stays n j);
 }
 
 pub fits_beside : (stays : ℕ → Option Stay) (f n : ℕ) (ps : List Placed) → Fits stays n ps → Fits (after_join stays f n) (n + 1) ps
@@ -182,14 +196,20 @@ counts_ended stays f p = at (eqb f p.job.forlopp) ∙ (λ i. cond (nat_eq_equiv.
 pub counting_ended : (stays : ℕ → Option Stay) (f : ℕ) (ps : List Placed) → counting (updated f None stays) ps ≡ others_in f (counting stays ps)
 counting_ended stays f [] = refl
 counting_ended stays f (p ∷ ps) =
-    (λ i. map (λ (p : Placed). p.job) (cond (counts_ended stays f p i) (p ∷ filter (counts (updated f None stays)) ps) (filter (counts (updated f None stays)) ps)))
+    (λ i. map (λ (p : Placed). p.job) (cond (counts_ended stays f p i) (p ∷ filter (counts (updated f None stays)) ps)
+    (filter (counts (updated f None stays)) ps)))
     ∙ one_more (is_of f p.job) (counts stays p) f p (filter (counts (updated f None stays)) ps) (filter (counts stays) ps) refl (counting_ended stays f ps)
   where
-    one_more : (b c : Bool) (f : ℕ) (p : Placed) (us vs : List Placed) → is_of f p.job ≡ b → map (λ (p : Placed). p.job) us ≡ others_in f (map (λ (p : Placed). p.job) vs)
+    one_more : (b c : Bool) (f : ℕ) (p : Placed) (us vs : List Placed) → is_of f p.job ≡ b
+        → map (λ (p : Placed). p.job) us ≡ others_in f (map (λ (p : Placed). p.job) vs)
         → map (λ (p : Placed). p.job) (cond (cond b false c) (p ∷ us) us) ≡ others_in f (map (λ (p : Placed). p.job) (cond c (p ∷ vs) vs))
-    one_more true true f p us vs e ih = ih ∙ sym (λ i. cond (not (e i)) (p.job ∷ others_in f (map (λ (p : Placed). p.job) vs)) (others_in f (map (λ (p : Placed). p.job) vs)))
+    one_more true true f p us vs e ih = ih ∙ sym
+        (λ i. cond (not (e i)) (p.job ∷ others_in f (map (λ (p : Placed). p.job) vs))
+        (others_in f (map (λ (p : Placed). p.job) vs)))
     one_more true false f p us vs e ih = ih
-    one_more false true f p us vs e ih = ap (λ l. p.job ∷ l) ih ∙ sym (λ i. cond (not (e i)) (p.job ∷ others_in f (map (λ (p : Placed). p.job) vs)) (others_in f (map (λ (p : Placed). p.job) vs)))
+    one_more false true f p us vs e ih = ap (λ l. p.job ∷ l) ih
+        ∙ sym (λ i. cond (not (e i)) (p.job ∷ others_in f (map (λ (p : Placed). p.job) vs))
+        (others_in f (map (λ (p : Placed). p.job) vs)))
     one_more false false f p us vs e ih = ih
 
 pub begun_ended : (stays : ℕ → Option Stay) (f n : ℕ) → ((g : ℕ) → IsBefore n (stays g)) → (g : ℕ) → IsBefore n (updated f None stays g)
@@ -216,7 +236,9 @@ counting_left stays f k ps some last = by_stay (stays f) refl some
     by_stay None is some = absurd (omega arith)
     by_stay (Some s) is some = at (ltb 1 s.jobs) refl
       where
-        at : (b : Bool) → ltb 1 s.jobs ≡ b → counting (updated f (cond b (Some (record { number = s.number; jobs = s.jobs - 1 })) None) stays) ps ≡ counting stays ps
+        at : (b : Bool) → ltb 1 s.jobs ≡ b → counting
+            (updated f (cond b (Some (record { number = s.number; jobs = s.jobs - 1 })) None) stays) ps
+            ≡ counting stays ps
         at true e = counting_alike _ stays ps (all_renewed stays f s (record { number = s.number; jobs = s.jobs - 1 }) ps is refl)
         at false e =
             let few = ltb-false 1 s.jobs e in
@@ -276,7 +298,8 @@ from_counting stays [] = refl
 from_counting stays (p ∷ ps) = ap (counting stays) (from_cons stays p ps) ∙ at (counts stays p) refl (from_counting stays ps)
   where
     at : (b : Bool) → counts stays p ≡ b → counting stays (from_first stays ps) ≡ counting stays ps
-        → counting stays (cond b (p ∷ ps) (from_first stays ps)) ≡ map (λ (p : Placed). p.job) (cond b (p ∷ filter (counts stays) ps) (filter (counts stays) ps))
+        → counting stays (cond b (p ∷ ps) (from_first stays ps))
+        ≡ map (λ (p : Placed). p.job) (cond b (p ∷ filter (counts stays) ps) (filter (counts stays) ps))
     at true e ih = counting_first stays p ps e
     at false e ih = ih
 
@@ -299,7 +322,8 @@ filter_twice : (t : Placed → Bool) (ps : List Placed) → filter t (filter t p
 filter_twice t [] = refl
 filter_twice t (p ∷ ps) = at (t p) refl (filter_twice t ps)
   where
-    at : (b : Bool) → t p ≡ b → filter t (filter t ps) ≡ filter t ps → filter t (cond b (p ∷ filter t ps) (filter t ps)) ≡ cond b (p ∷ filter t ps) (filter t ps)
+    at : (b : Bool) → t p ≡ b → filter t (filter t ps) ≡ filter t ps
+        → filter t (cond b (p ∷ filter t ps) (filter t ps)) ≡ cond b (p ∷ filter t ps) (filter t ps)
     at true e ih = (λ i. cond (e i) (p ∷ filter t (filter t ps)) (filter t (filter t ps))) ∙ ap (λ l. p ∷ l) ih
     at false e ih = ih
 
@@ -307,7 +331,8 @@ filter_front : (stays : ℕ → Option Stay) (ps : List Placed) → FrontCounts 
 filter_front stays [] = tt
 filter_front stays (p ∷ ps) = at (counts stays p) refl (filter_front stays ps)
   where
-    at : (b : Bool) → counts stays p ≡ b → FrontCounts stays (filter (counts stays) ps) → FrontCounts stays (cond b (p ∷ filter (counts stays) ps) (filter (counts stays) ps))
+    at : (b : Bool) → counts stays p ≡ b → FrontCounts stays (filter (counts stays) ps)
+        → FrontCounts stays (cond b (p ∷ filter (counts stays) ps) (filter (counts stays) ps))
     at true e ih = e
     at false e ih = ih
 

@@ -1,5 +1,6 @@
 -- What holds of the buffers between two calls, after each of them.
-use Rattle.std.proofs.Common.{◌≡◌, ℕ, ◌+◌, ◌-◌, ◌<◌, ◌≤◌, ◌^◌, Bool, true, false, cond, eqb, List, [], ◌∷◌, Option, None, Some, refl, sym, ap, subst, ◌∙◌, arith}
+use Rattle.std.proofs.Common.{◌≡◌, ℕ, ◌+◌, ◌-◌, ◌<◌, ◌≤◌, ◌^◌, Bool, true, false, cond, eqb, List}
+use Rattle.std.proofs.Common.{[], ◌∷◌, Option, None, Some, refl, sym, ap, subst, ◌∙◌, arith}
 use Rattle.std.specs.Option.{option_map}
 use Rattle.std.specs.Prelude.{MatchResult, Result, Ok, Err}
 use Rattle.std.proofs.lemmas.Bool.{eqb-true, eq-eqb}
@@ -8,12 +9,20 @@ use Rattle.std.proofs.lemmas.Option.{none-some, same_Some}
 use Rattle.plex_num.specs.declared.level.Level.{Level}
 use Rattle.plex_num.specs.declared.level.Level.TheVariants.{A, B, C, D}
 use Rattle.job_types.specs.declared.job.Job.{Job}
-use Rattle.job_types.specs.Waiting.{Waiting, after_pick, count_of, first_of, is_of, last_at, others, pick, rest_of, waiting_count}
+use Rattle.job_types.specs.Waiting.{Waiting, after_pick, count_of, first_of, is_of, last_at, others}
+use Rattle.job_types.specs.Waiting.{pick, rest_of, waiting_count}
 use Rattle.job_buffers.specs.declared.stays.Stay.{Stay}
 use Rattle.job_buffers.specs.declared.queue.Placed.{Placed}
 use Rattle.job_buffers.specs.Room.{Room, room_at, rooms, with_room, without_one}
-use Rattle.job_buffers.specs.Standing.{AllFit, AreBefore, AreTidied, FrontCounts, IsBefore, IsSound, Lists, behind, counting, first_placed, front_of, jobs_of, left, none_placed, placed_at, updated, waiting_of, without_first}
-use Rattle.job_buffers.proofs.Counting.{after_join, begun_ended, begun_joined, begun_left, count_cons, count_gone, count_last_one, count_other, counting_beside, counting_ended, counting_first, counting_joined, counting_left, fits_beside, fits_joined, jobs_joined, jobs_left, length_others, newcomer}
+use Rattle.job_buffers.specs.Standing.{AllFit, AreBefore, AreTidied, FrontCounts, IsBefore, IsSound}
+use Rattle.job_buffers.specs.Standing.{Lists, behind, counting, first_placed, front_of, jobs_of}
+use Rattle.job_buffers.specs.Standing.{left, none_placed, placed_at, updated, waiting_of}
+use Rattle.job_buffers.specs.Standing.{without_first}
+use Rattle.job_buffers.proofs.Counting.{after_join, begun_ended, begun_joined, begun_left}
+use Rattle.job_buffers.proofs.Counting.{count_cons, count_gone, count_last_one, count_other}
+use Rattle.job_buffers.proofs.Counting.{counting_beside, counting_ended, counting_first}
+use Rattle.job_buffers.proofs.Counting.{counting_joined, counting_left, fits_beside, fits_joined}
+use Rattle.job_buffers.proofs.Counting.{jobs_joined, jobs_left, length_others, newcomer}
 
 -- ---- room
 
@@ -116,7 +125,8 @@ sound_joined stays places places_after n pushed q room j sound some kept =
     let all_more = all_last j.level j (waiting_of stays q) in
     let more : n + 1 ≡ waiting_count (last_at j.level j (waiting_of stays q)) = omega arith in
     record {
-      jobs = λ g. jobs_joined stays pushed j g ∙ ap (λ k. k + cond (is_of g j) 1 0) (sound.jobs g) ∙ sym (ap (count_of g) waits ∙ count_last j.level g j (waiting_of stays q));
+      jobs = λ g. jobs_joined stays pushed j g ∙ ap (λ k. k + cond (is_of g j) 1 0) (sound.jobs g)
+          ∙ sym (ap (count_of g) waits ∙ count_last j.level g j (waiting_of stays q));
       begun = begun_joined stays j.forlopp pushed sound.begun;
       all = more ∙ sym (ap waiting_count waits);
       fewer = omega arith;
@@ -208,7 +218,8 @@ jobs_ended stays f g = at (eqb f g)
     at true = refl
     at false = refl
 
-pub waiting_removed : (stays : ℕ → Option Stay) (f : ℕ) (q new : Lists) → AreTidied (updated f None stays) q new → waiting_of (updated f None stays) new ≡ others f (waiting_of stays q)
+pub waiting_removed : (stays : ℕ → Option Stay) (f : ℕ) (q new : Lists) → AreTidied (updated f None stays) q new
+    → waiting_of (updated f None stays) new ≡ others f (waiting_of stays q)
 waiting_removed stays f q new tidied = waiting_tidied _ q new tidied ∙ waiting_ended stays f q
 
 pub sound_removed : (stays : ℕ → Option Stay) (places places_after n pushed : ℕ) (q new : Lists) (room : Room) (f : ℕ) → IsSound stays places pushed n q room
@@ -243,7 +254,8 @@ pick_lists stays [] [] [] (p ∷ d) fa fb fc fd = λ i. first_of [] [] [] (count
 pick_lists stays [] [] [] [] fa fb fc fd = refl
 
 -- the pick is the job that was placed first
-pub pick_placed : (stays : ℕ → Option Stay) (n : ℕ) (q : Lists) → AllFit stays n q → pick (waiting_of stays q) ≡ option_map (λ (p : Placed). p.job) (first_placed q)
+pub pick_placed : (stays : ℕ → Option Stay) (n : ℕ) (q : Lists) → AllFit stays n q
+    → pick (waiting_of stays q) ≡ option_map (λ (p : Placed). p.job) (first_placed q)
 pick_placed stays n q fit = pick_lists stays q.a q.b q.c q.d fit.a.front fit.b.front fit.c.front fit.d.front
 
 rest_lists : (stays : ℕ → Option Stay) (a b c d : List Placed) → FrontCounts stays a → FrontCounts stays b → FrontCounts stays c → FrontCounts stays d
@@ -272,7 +284,8 @@ count_lists [] [] (x ∷ c) d j is g = let one = count_cons g x c in let same = 
 count_lists [] [] [] (x ∷ d) j is g = let one = count_cons g x d in let same = same_count g x j is in omega arith
 count_lists [] [] [] [] j is g = absurd (none-some j is)
 
-all_lists : (a b c d : List Job) (j : Job) → first_of a b c d ≡ Some j → waiting_count (record { a = a; b = b; c = c; d = d }) ≡ 1 + waiting_count (rest_of a b c d)
+all_lists : (a b c d : List Job) (j : Job) → first_of a b c d ≡ Some j
+    → waiting_count (record { a = a; b = b; c = c; d = d }) ≡ 1 + waiting_count (rest_of a b c d)
 all_lists (x ∷ a) b c d j is = omega arith
 all_lists [] (x ∷ b) c d j is = omega arith
 all_lists [] [] (x ∷ c) d j is = omega arith
@@ -315,15 +328,19 @@ taken stays places n pushed q room p sound is =
     one_less a b c is = omega arith
 
 -- some job waits where one is taken
-pub some_waits : (stays : ℕ → Option Stay) (places n pushed : ℕ) (q : Lists) (room : Room) (p : Placed) → IsSound stays places pushed n q room → first_placed q ≡ Some p → 1 ≤ n
+pub some_waits : (stays : ℕ → Option Stay) (places n pushed : ℕ) (q : Lists) (room : Room) (p : Placed)
+    → IsSound stays places pushed n q room → first_placed q ≡ Some p → 1 ≤ n
 some_waits stays places n pushed q room p sound is = let some = (taken stays places n pushed q room p sound is).some in omega arith
 
-pub waiting_taken : (stays : ℕ → Option Stay) (places n pushed : ℕ) (q new : Lists) (room : Room) (p : Placed) → IsSound stays places pushed n q room → first_placed q ≡ Some p
+pub waiting_taken : (stays : ℕ → Option Stay) (places n pushed : ℕ) (q new : Lists) (room : Room) (p : Placed)
+    → IsSound stays places pushed n q room → first_placed q ≡ Some p
     → AreTidied (updated p.job.forlopp (left (stays p.job.forlopp)) stays) (without_first q) new
     → waiting_of (updated p.job.forlopp (left (stays p.job.forlopp)) stays) new ≡ after_pick (waiting_of stays q)
-waiting_taken stays places n pushed q new room p sound is tidied = waiting_tidied _ (without_first q) new tidied ∙ (taken stays places n pushed q room p sound is).waits
+waiting_taken stays places n pushed q new room p sound is tidied = waiting_tidied _ (without_first q) new tidied
+    ∙ (taken stays places n pushed q room p sound is).waits
 
-pub sound_taken : (stays : ℕ → Option Stay) (places places_after n pushed : ℕ) (q new : Lists) (room : Room) (p : Placed) → IsSound stays places pushed n q room → first_placed q ≡ Some p
+pub sound_taken : (stays : ℕ → Option Stay) (places places_after n pushed : ℕ) (q new : Lists) (room : Room)
+    (p : Placed) → IsSound stays places pushed n q room → first_placed q ≡ Some p
     → places ≤ places_after → AreTidied (updated p.job.forlopp (left (stays p.job.forlopp)) stays) (without_first q) new
     → IsSound (updated p.job.forlopp (left (stays p.job.forlopp)) stays) places_after pushed (n - 1) new room
 sound_taken stays places places_after n pushed q new room p sound is kept tidied =
@@ -344,7 +361,8 @@ sound_taken stays places places_after n pushed q new room p sound is kept tidied
     }
 
 -- no job is picked where none is placed
-pub none_taken : (stays : ℕ → Option Stay) (places n pushed : ℕ) (q : Lists) (room : Room) → IsSound stays places pushed n q room → first_placed q ≡ None → pick (waiting_of stays q) ≡ None
+pub none_taken : (stays : ℕ → Option Stay) (places n pushed : ℕ) (q : Lists) (room : Room)
+    → IsSound stays places pushed n q room → first_placed q ≡ None → pick (waiting_of stays q) ≡ None
 none_taken stays places n pushed q room sound is = pick_placed stays pushed q sound.fit ∙ ap (option_map (λ (p : Placed). p.job)) is
 
 -- ---- nothing waits
@@ -383,7 +401,8 @@ sound_roomy stays places places_after n pushed q room room_after sound placing n
 }
 
 -- room for that many jobs of a level was made, or none was
-pub sound_made : {T E : Type 0} (r : Result T E) (l : Level) (more : ℕ) (stays : ℕ → Option Stay) (places places_after n pushed : ℕ) (q : Lists) (room room_after : Room) → IsSound stays places pushed n q room
+pub sound_made : {T E : Type 0} (r : Result T E) (l : Level) (more : ℕ) (stays : ℕ → Option Stay)
+    (places places_after n pushed : ℕ) (q : Lists) (room room_after : Room) → IsSound stays places pushed n q room
     → MatchResult r (λ _. room_after ≡ with_room l more room) (λ _. room_after ≡ room) → places ≤ places_after
     → rooms room + (more - room_at l room) ≤ places_after → pushed + (rooms room + (more - room_at l room)) < 2 ^ 64
     → IsSound stays places_after pushed n q room_after

@@ -1,7 +1,7 @@
 -- For how many more jobs the lists have room.
 --
--- Room is told apart from the lists, since it says nothing of the jobs: what is said to stay as it was is said of
--- the lists alone.
+-- Room is told apart from the lists, since it says nothing of the jobs: what is said to stay as it
+-- was is said of the lists alone.
 use Rattle.std.specs.Prelude.{◌≡◌, ◌≤◌, ◌+◌, ◌-◌, ℕ}
 use Rattle.plex_num.specs.declared.level.Level.{Level}
 use Rattle.plex_num.specs.declared.level.Level.TheVariants.{A, B, C, D}

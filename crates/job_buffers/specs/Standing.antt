@@ -1,9 +1,10 @@
 -- Which of the jobs that were placed in the lists still wait.
 --
--- A forlopp stays from the moment when a first job of it joins to the moment when none of its jobs waits: the last one
--- was taken, or all were removed. Each stay has a number of its own, and a job that was placed in the lists waits as long
--- as the stay in which it joined goes on.
-use Rattle.std.specs.Prelude.{◌≡◌, ℕ, ◌+◌, ◌-◌, ◌<◌, ◌≤◌, ◌^◌, Bool, true, false, nat_eq, nat_lt, List, [], ◌∷◌, ◌++◌, map, filter, Option, Some, None, if◌then◌else◌}
+-- A forlopp stays from the moment when a first job of it joins to the moment when none of its jobs
+-- waits: the last one was taken, or all were removed. Each stay has a number of its own, and a job
+-- that was placed in the lists waits as long as the stay in which it joined goes on.
+use Rattle.std.specs.Prelude.{◌≡◌, ℕ, ◌+◌, ◌-◌, ◌<◌, ◌≤◌, ◌^◌, Bool, true, false, nat_eq, nat_lt}
+use Rattle.std.specs.Prelude.{List, [], ◌∷◌, ◌++◌, map, filter, Option, Some, None, if◌then◌else◌}
 use Rattle.std.specs.List.{AllByRecursion}
 use Rattle.std.specs.HashMap.{HashMap, get}
 use Rattle.plex_num.specs.declared.level.Level.{Level}
@@ -35,7 +36,8 @@ joined number (Some s) = record { number = s.number; jobs = s.jobs + 1 }
 -- a stay in which one job less waits, and which ends with the last
 abbrev pub left : Option Stay → Option Stay
 left None = None
-left (Some s) = if nat_lt 1 s.jobs then Some (record { number = s.number; jobs = s.jobs - 1 }) else None
+left (Some s) = if nat_lt 1 s.jobs then Some (record { number = s.number; jobs = s.jobs - 1 })
+    else None
 
 -- the stay began before a number
 abbrev pub IsBefore : ℕ → Option Stay → Type 0
@@ -155,9 +157,11 @@ pub record AreTidied (stays : ℕ → Option Stay) (old new : Lists) : Type 0 wh
   pub c : IsTidied stays old.c new.c
   pub d : IsTidied stays old.d new.d
 
--- the stays count the jobs that wait, and all numbers are below that of the pushes so far; n jobs wait, the table has a
--- place for each job for which there is room, and there are numbers for all of them
-pub record IsSound (stays : ℕ → Option Stay) (places pushed n : ℕ) (q : Lists) (room : Room) : Type 0 where
+-- the stays count the jobs that wait, and all numbers are below that of the pushes so far; n jobs
+-- wait, the table has a place for each job for which there is room, and there are numbers for all
+-- of them
+pub record IsSound (stays : ℕ → Option Stay) (places pushed n : ℕ) (q : Lists) (room : Room) : Type
+    0 where
   pub jobs : (forlopp : ℕ) → jobs_of (stays forlopp) ≡ count_of forlopp (waiting_of stays q)
   pub begun : (forlopp : ℕ) → IsBefore pushed (stays forlopp)
   pub all : n ≡ waiting_count (waiting_of stays q)

@@ -2,7 +2,8 @@
 ghost use Rattle.std.specs.Prelude.{◌≡◌, ◌+◌, ◌<◌, ◌≤◌, ◌↔◌, IsNone, OnOk, MatchResult};
 ghost use Rattle.std.specs.Option.{option_copied};
 ghost use Rattle.job_buffers.specs.Room.{HasOthersOf, NoLess, room_at, without_one};
-ghost use Rattle.job_types.specs.Waiting.{after_pick, count_of, joins, nobody, others, pick, waiting_count};
+ghost use Rattle.job_types.specs.Waiting.{after_pick, count_of, joins, nobody, others, pick};
+ghost use Rattle.job_types.specs.Waiting.{waiting_count};
 
 use crate::queue::Placed;
 use crate::queues::Queues;
@@ -12,9 +13,10 @@ use plex_num::{Level, Memory};
 use std::alloc::Global;
 use std::marker::Model;
 
-/// The jobs that wait, in four lists by level, each job behind those of its level that joined before it. Contracts see
-/// the lists, and for how many more jobs each of them has room. Each call takes the same time, spread over many calls,
-/// whatever waits; but `remove_all` takes that of the jobs that wait.
+/// The jobs that wait, in four lists by level, each job behind those of its level that joined
+/// before it. Contracts see the lists, and for how many more jobs each of them has room. Each call
+/// takes the same time, spread over many calls, whatever waits; but `remove_all` takes that of the
+/// jobs that wait.
 pub struct Buffers {
     queues: Queues,
     stays: Stays,
@@ -86,7 +88,8 @@ impl Buffers {
         self.queues.make_room(level, more)
     }
 
-    /// The job joins the list of its level; where memory is refused, it is dropped and all lists stay as they were.
+    /// The job joins the list of its level; where memory is refused, it is dropped and all lists
+    /// stay as they were.
     pub fn push(&mut self, job: Job) -> Result<(), Memory>
         ensures waiting { MatchResult result
             (λ _. self.new.waiting ≡ joins job self.old.waiting)
@@ -111,7 +114,8 @@ impl Buffers {
         self.queues.push_reserved(job.level, Placed { job, stay });
     }
 
-    /// The job that is next: the front of the first list of A, B, C and D that is not empty. `None` exactly where no job waits.
+    /// The job that is next: the front of the first list of A, B, C and D that is not empty. `None`
+    /// exactly where no job waits.
     pub fn pick(&self) -> Option<&Job>
         ensures job { option_copied result ≡ pick self.now.waiting }
         ensures none { IsNone result ↔ (self.now.waiting ≡ nobody) }
@@ -138,7 +142,8 @@ impl Buffers {
         Some(placed.job)
     }
 
-    /// Removes the jobs of a forlopp from all lists, and tells how many went. The others keep their order.
+    /// Removes the jobs of a forlopp from all lists, and tells how many went. The others keep their
+    /// order.
     pub fn remove_forlopp(&mut self, forlopp: u64) -> u64
         ensures count { result ≡ count_of forlopp self.old.waiting }
         ensures left { self.new.waiting ≡ others forlopp self.old.waiting }

@@ -1,5 +1,6 @@
 // The jobs that were placed at one level.
-ghost use Rattle.std.specs.Prelude.{◌≡◌, ◌-◌, ◌<◌, ◌≤◌, ◌++◌, ◌∷◌, [], drop, filter, length, position, slice_get, MatchResult};
+ghost use Rattle.std.specs.Prelude.{◌≡◌, ◌-◌, ◌<◌, ◌≤◌, ◌++◌, ◌∷◌, [], drop, filter, length};
+ghost use Rattle.std.specs.Prelude.{position, slice_get, MatchResult};
 ghost use Rattle.std.specs.List.{position_or_len};
 ghost use Rattle.std.specs.Option.{option_copied};
 ghost use Rattle.std.specs.VecDeque.{deque_capacity};
@@ -19,7 +20,8 @@ pub struct Placed {
     pub stay: u64,
 }
 
-/// A list of placed jobs, the one that was placed first in front, and for how many more there is room.
+/// A list of placed jobs, the one that was placed first in front, and for how many more there is
+/// room.
 pub struct Queue {
     placed: VecDeque<Placed>,
     room: usize,
@@ -107,8 +109,8 @@ impl Queue {
         self.placed.pop_front()
     }
 
-    /// Lets go of the jobs in front that wait no longer, and of all such jobs where they are more than half of the list;
-    /// so many jobs wait in all lists together.
+    /// Lets go of the jobs in front that wait no longer, and of all such jobs where they are more
+    /// than half of the list; so many jobs wait in all lists together.
     pub fn tidy(&mut self, stays: &Stays, waiting: u64)
         ensures tidied { IsTidied (stays_in stays.now.table) self.old.placed self.new.placed }
         ensures room { self.new.room ≡ self.old.room }

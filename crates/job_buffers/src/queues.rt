@@ -2,7 +2,8 @@
 ghost use Rattle.std.specs.Prelude.{◌≡◌, ◌<◌, ◌^◌, MatchResult};
 ghost use Rattle.std.specs.Option.{option_copied};
 ghost use Rattle.job_buffers.specs.Room.{room_at, rooms, with_room, without_one};
-ghost use Rattle.job_buffers.specs.Standing.{first_placed, none_placed, placed_at, stays_in, without_first, AreTidied};
+ghost use Rattle.job_buffers.specs.Standing.{first_placed, none_placed, placed_at, stays_in};
+ghost use Rattle.job_buffers.specs.Standing.{without_first, AreTidied};
 
 use crate::queue::{Placed, Queue};
 use crate::stays::Stays;
@@ -137,7 +138,8 @@ impl Queues {
         self.d.take_front()
     }
 
-    /// Lets go of jobs that wait no longer; so many wait. In front of each list one that waits is left.
+    /// Lets go of jobs that wait no longer; so many wait. In front of each list one that waits is
+    /// left.
     pub fn tidy(&mut self, stays: &Stays, waiting: u64)
         ensures tidied { AreTidied (stays_in stays.now.table) self.old.lists self.new.lists }
         ensures room { self.new.room ≡ self.old.room }

@@ -8,8 +8,8 @@ use plex_num::Memory;
 use std::alloc::Global;
 use std::collections::HashMap;
 
-/// The stay of a forlopp, from the moment when a first job of it joins to the moment when none of its jobs waits: its
-/// number, which no other stay has, and how many jobs wait.
+/// The stay of a forlopp, from the moment when a first job of it joins to the moment when none of
+/// its jobs waits: its number, which no other stay has, and how many jobs wait.
 #[derive(Clone, Copy)]
 pub struct Stay {
     pub number: u64,
@@ -66,8 +66,8 @@ impl Stays {
         self.table.get(&forlopp).copied()
     }
 
-    /// A job of a forlopp joins: the number of its stay, which is this one if the stay begins with it. There must be room
-    /// for a stay.
+    /// A job of a forlopp joins: the number of its stay, which is this one if the stay begins with
+    /// it. There must be room for a stay.
     pub fn join(&mut self, forlopp: u64, number: u64) -> u64
         requires room { 0 < spare self.old.table }
         requires few { jobs_of (stays_in self.old.table forlopp) + 1 < 2 ^ 64 }
@@ -97,7 +97,8 @@ impl Stays {
     /// The stay of a forlopp that stays becomes this one.
     fn put(&mut self, forlopp: u64, stay: Stay)
         requires { IsSome (stays_in self.old.table forlopp) }
-        ensures stays { stays_in self.new.table ≡ updated forlopp (Some stay) (stays_in self.old.table) }
+        ensures stays { stays_in self.new.table
+            ≡ updated forlopp (Some stay) (stays_in self.old.table) }
         ensures room { spare self.old.table ≤ spare self.new.table }
     {
         if let Some(kept) = self.table.get_mut(&forlopp) {

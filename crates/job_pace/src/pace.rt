@@ -25,8 +25,8 @@ enum Partner {
 struct Known {
     /// Whether one has ended.
     ended: bool,
-    /// How long they are, in instructions, about, that not counted by which a job is longer than all
-    /// that may fly with it.
+    /// How long they are, in instructions, about, that not counted by which a job is longer than
+    /// all that may fly with it.
     mean: u64,
     /// The same with all counted.
     whole: u64,
@@ -110,8 +110,8 @@ impl Drop for Pace {
 }
 
 impl Pace {
-    /// Before the first job, for so many entries and so many threads beside the dispatcher, where so many jobs may fly. Memory is the
-    /// only reason for an error.
+    /// Before the first job, for so many entries and so many threads beside the dispatcher, where
+    /// so many jobs may fly. Memory is the only reason for an error.
     pub fn new(alloc: Global, entries: u32, helpers: u64, room: u32) -> Result<Pace, Memory> {
         let long = long_job(room);
         match Vec::from_elem(alloc, unknown(), entries as usize) {
@@ -132,7 +132,8 @@ impl Pace {
         }
     }
 
-    /// Whether some job may be worth a loan where none flies: none has ended, or some entry has long ones.
+    /// Whether some job may be worth a loan where none flies: none has ended, or some entry has
+    /// long ones.
     pub fn may_any_fly(&self) -> bool {
         self.helpers > 0 && (!self.ended || self.long > 0)
     }
@@ -189,7 +190,8 @@ impl Pace {
         self.behind = behind;
     }
 
-    /// How many threads are wanted beside the dispatcher where so many jobs fly, and one more of this entry.
+    /// How many threads are wanted beside the dispatcher where so many jobs fly, and one more of
+    /// this entry.
     pub fn threads_for(&mut self, entry: u32, flying: usize) -> u64 {
         let known = self.known(entry);
         self.most_helpers = self.helpers_for(known);
@@ -229,7 +231,8 @@ impl Pace {
         self.most_helpers.min(started.saturating_add(1))
     }
 
-    /// Whether enough jobs wait for a thread, where so many do: the dispatcher runs one of them before it lets more set out.
+    /// Whether enough jobs wait for a thread, where so many do: the dispatcher runs one of them
+    /// before it lets more set out.
     pub fn are_enough(&self, waiting: u64) -> bool {
         waiting >= self.helpers.saturating_mul(ENOUGH).max(1)
     }

@@ -15,8 +15,8 @@ const UNUSED: Waiting = Waiting {
     awaits: 0,
 };
 
-/// A caller that waits: the address at which it goes on, its locals and entry values, and the number of the signal that
-/// answers it.
+/// A caller that waits: the address at which it goes on, its locals and entry values, and the
+/// number of the signal that answers it.
 #[derive(Clone, Copy)]
 pub(crate) struct Waiting {
     pub back: usize,
@@ -25,8 +25,8 @@ pub(crate) struct Waiting {
     awaits: u32,
 }
 
-/// The callers that wait: at most eight, which contracts see as a list, the latest first. A place that is left keeps what it
-/// held, so that to leave it costs no more than to count one fewer.
+/// The callers that wait: at most eight, which contracts see as a list, the latest first. A place
+/// that is left keeps what it held, so that to leave it costs no more than to count one fewer.
 #[derive(Drop)]
 pub struct Frames {
     waiting: [Waiting; MOST_CALLERS],
@@ -78,7 +78,12 @@ impl Frames {
     pub fn push(&mut self, back: usize, locals: &mut [u32; 50], given: &[u32; 8], awaits: u32)
         requires { length self.old < MOST_CALLERS }
         ensures cleared { locals.new ≡ replicate 50 0 }
-        ensures waits { self.new ≡ record { back = back; locals = locals.old; given = given.now; awaits = awaits } ∷ self.old }
+        ensures waits { self.new ≡ record {
+          back = back;
+          locals = locals.old;
+          given = given.now;
+          awaits = awaits;
+        } ∷ self.old }
     {
         let frame = &mut self.waiting[self.count];
         frame.back = back;

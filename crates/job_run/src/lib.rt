@@ -1,10 +1,12 @@
-// The run of a job: what the job has of its own while the machine makes its instructions, and how instructions are made.
+// The run of a job: what the job has of its own while the machine makes its instructions, and how
+// instructions are made.
 //
-// What goes in: the code of an exchange, the start of a job, and words, which may be a list or words that jobs share.
-// What comes out: a `JobRun`, which contracts see as a record of lists and numbers, and what each kind of instruction does to it;
-// a `Row`, what the machine does with the instructions of one shape; a `Part`, such rows that are made one after the other; and
-// what stands in code where a search or a loop without statements begins. It does not know which rows there are, nor how the
-// machine chooses among them.
+// What goes in: the code of an exchange, the start of a job, and words, which may be a list or
+// words that jobs share. What comes out: a `JobRun`, which contracts see as a record of lists and
+// numbers, and what each kind of instruction does to it; a `Row`, what the machine does with the
+// instructions of one shape; a `Part`, such rows that are made one after the other; and what stands
+// in code where a search or a loop without statements begins. It does not know which rows there
+// are, nor how the machine chooses among them.
 #![tactic(auto)]
 
 mod crossing;

@@ -1,4 +1,5 @@
-// The locals of an activation, put away where it waits for an answer and given back where it goes on.
+// The locals of an activation, put away where it waits for an answer and given back where it goes
+// on.
 //
 // Most blocks use few of them: the first temporaries, the numbers of a few loops one inside the
 // other, and what a condition keeps. These are put away at each call. The others are put away, and
@@ -103,7 +104,8 @@ impl Kept {
     #[cold]
     #[inline(never)]
     fn give_back_all(&self, locals: &mut [u32; 50])
-        ensures { locals.new ≡ self.now.first ++ self.now.temporaries ++ self.now.loops ++ self.now.inner ++ self.now.results }
+        ensures { locals.new ≡ self.now.first ++ self.now.temporaries ++ self.now.loops
+            ++ self.now.inner ++ self.now.results }
     {
         fill(
             locals,

@@ -23,8 +23,9 @@ use std::marker::Model;
 /// How many statements a job may begin, the one that faults among them.
 const FIRST_REMAINING: u32 = MOST_COUNTED as u32 + 1;
 
-/// The run of a job: what it has of its own while the machine makes its instructions. Contracts see it as a record of lists
-/// and numbers. A run that has ended can begin anew in its place, which costs no more than what it held.
+/// The run of a job: what it has of its own while the machine makes its instructions. Contracts see
+/// it as a record of lists and numbers. A run that has ended can begin anew in its place, which
+/// costs no more than what it held.
 #[derive(Drop)]
 pub struct JobRun {
     address: usize,
@@ -100,7 +101,8 @@ impl JobRun {
         }
     }
 
-    /// The run of a start before its first instruction, which is at the address of the start's entry. The code must have that entry.
+    /// The run of a start before its first instruction, which is at the address of the start's
+    /// entry. The code must have that entry.
     pub fn new(code: &Code, start: &JobStart) -> JobRun
         requires { start.now.job.entry < length code.now.entries }
         ensures { result ≡ fresh (slice_index code.now.entries start.now.job.entry) start.now }

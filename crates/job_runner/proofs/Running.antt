@@ -1,5 +1,7 @@
--- A job that is ready is one that the machine can run, and what the machine leaves is what comes back.
-use Rattle.std.proofs.Common.{◌≡◌, ℕ, ◌≤◌, List, [], ◌∷◌, length, Option, Some, None, refl, sym, ap, ◌∙◌, subst, arith}
+-- A job that is ready is one that the machine can run, and what the machine leaves is what comes
+-- back.
+use Rattle.std.proofs.Common.{◌≡◌, ℕ, ◌≤◌, List, [], ◌∷◌, length, Option, Some, None, refl, sym, ap}
+use Rattle.std.proofs.Common.{◌∙◌, subst, arith}
 use Rattle.std.specs.List.{AllByRecursion}
 use Rattle.std.proofs.lemmas.Bool.{and_from}
 use Rattle.job_types.specs.declared.job.JobStart.{JobStart}
@@ -28,8 +30,18 @@ use Rattle.job_runner.specs.Runs.{HasRun, IsReady, KeepsPermit}
 may_make : (x : Exchange) (loan : Lent) (ts : List Touch) → length loan.base ≡ x.cells → x.cells ≤ 1000000 → AreOfCells x ts
     → KeepsPermit loan.permit ts → AllByRecursion (MayMake (readable loan) (writable loan)) ts
 may_make x loan [] whole few cells keeps = tt
-may_make x loan (Load w v ∷ ts) whole few cells keeps = (and_from (is_word_of loan.base w) (may_read loan.permit w) (word_of loan.base x.cells w whole few cells.0) keeps.0, may_make x loan ts whole few cells.1 keeps.1)
-may_make x loan (Store w v ∷ ts) whole few cells keeps = (and_from (is_word_of loan.base w) (may_write loan.permit w) (word_of loan.base x.cells w whole few cells.0) keeps.0, may_make x loan ts whole few cells.1 keeps.1)
+may_make x loan (Load w v ∷ ts) whole few cells
+    keeps = (
+      and_from (is_word_of loan.base w) (may_read loan.permit w) (word_of loan.base x.cells w whole few cells.0)
+          keeps.0,
+      may_make x loan ts whole few cells.1 keeps.1,
+    )
+may_make x loan (Store w v ∷ ts) whole few cells
+    keeps = (
+      and_from (is_word_of loan.base w) (may_write loan.permit w) (word_of loan.base x.cells w whole few cells.0)
+          keeps.0,
+      may_make x loan ts whole few cells.1 keeps.1,
+    )
 
 -- a seat that has touched nothing sees the base values
 base_seen : (seat : JobView) → seat.1.touches ≡ [] → current seat.1 ≡ seat.1.lent.base
@@ -89,13 +101,17 @@ comes_back x code store loan seat run e m home same = record {
 -- what comes back of a job that was ready
 pub has_run : (x : Exchange) (code : Code) (store : StoreId) (seat seat' : JobView) (run run' : Private) → IsExchange x → IsReady x code store seat run
     → ComesToEnd code.ops run (current seat.1) (Some seat.1.touches) run' (current seat'.1) (Some seat'.1.touches)
-    → ((b : Begins x code run (current seat.1) (readable seat.1.lent) (writable seat.1.lent)) → ComesToMeaning (job x b.start (current seat.1)) (Some seat.1.touches) run' (current seat'.1) (Some seat'.1.touches))
+    → ((b : Begins x code run (current seat.1) (readable seat.1.lent) (writable seat.1.lent))
+    → ComesToMeaning (job x b.start (current seat.1)) (Some seat.1.touches) run' (current seat'.1)
+    (Some seat'.1.touches))
     → (seat.0 ≡ seat'.0) × (seat.1.lent ≡ seat'.1.lent) → HasRun x code store seat.1.lent seat' run'
 has_run x code store seat seat' run run' kept ready e meaning like =
     let b = begins x code store seat run kept ready in
     let seen = base_seen seat ready.untouched in
     comes_back x code store seat.1.lent seat' run'
-    (subst (λ (z : Private × (List ℕ × List Touch)). ComesToEnd code.ops z.0 z.1.0 (Some z.1.1) run' (current seat'.1) (Some seat'.1.touches)) (λ i. (ready.run_is i, (seen i, ready.untouched i))) e)
-    (subst (λ (z : JobStart × (List ℕ × List Touch)). ComesToMeaning (job x z.0 z.1.0) (Some z.1.1) run' (current seat'.1) (Some seat'.1.touches)) (λ i. (b.1 i, (seen i, ready.untouched i))) (meaning b.0))
+    (subst (λ (z : Private × (List ℕ × List Touch)). ComesToEnd code.ops z.0 z.1.0 (Some z.1.1) run' (current seat'.1)
+    (Some seat'.1.touches)) (λ i. (ready.run_is i, (seen i, ready.untouched i))) e)
+    (subst (λ (z : JobStart × (List ℕ × List Touch)). ComesToMeaning (job x z.0 z.1.0) (Some z.1.1) run'
+    (current seat'.1) (Some seat'.1.touches)) (λ i. (b.1 i, (seen i, ready.untouched i))) (meaning b.0))
     (sym like.0 ∙ ready.home)
     (sym like.1)

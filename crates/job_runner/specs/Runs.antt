@@ -20,8 +20,8 @@ use Rattle.shared_store.specs.Seats.{JobView, StoreId}
 abbrev pub KeepsPermit : Permit → List Touch → Type 0
 KeepsPermit p ts = AllByRecursion (MayMake (may_read p) (may_write p)) ts
 
--- a loan for a job: its base values are the stored words of a valid state which its start fits, and each touch of the job
--- there is one that its permit lets
+-- a loan for a job: its base values are the stored words of a valid state which its start fits, and
+-- each touch of the job there is one that its permit lets
 pub record IsForJob (x : Exchange) (loan : Lent) : Type 0 where
   pub state : State
   pub valid : IsValid x state
@@ -30,15 +30,18 @@ pub record IsForJob (x : Exchange) (loan : Lent) : Type 0 where
   pub keeps : KeepsPermit loan.permit (trace_of x loan.start loan.base)
 
 -- the seat of such a loan of this store has touched nothing, and the run is at the loan's start
-pub record IsReady (x : Exchange) (code : Code) (store : StoreId) (seat : JobView) (run : Private) : Type 0 where
+pub record IsReady (x : Exchange) (code : Code) (store : StoreId) (seat : JobView)
+    (run : Private) : Type 0 where
   pub home : seat.0 ≡ store
   pub untouched : seat.1.touches ≡ []
   pub run_is : run ≡ started code seat.1.lent.start
   pub loan : IsForJob x seat.1.lent
 
--- what comes back of a loan's job: the run is at the end to which the machine comes alone from the loan's start on its base
--- values, that end is what the job means, and the seat is that of the same loan, with the touches of the job
-pub record HasRun (x : Exchange) (code : Code) (store : StoreId) (loan : Lent) (seat : JobView) (run : Private) : Type 0 where
+-- what comes back of a loan's job: the run is at the end to which the machine comes alone from the
+-- loan's start on its base values, that end is what the job means, and the seat is that of the same
+-- loan, with the touches of the job
+pub record HasRun (x : Exchange) (code : Code) (store : StoreId) (loan : Lent) (seat : JobView)
+    (run : Private) : Type 0 where
   pub end : Machine
   pub ends : Ends code.ops (begun (started code loan.start) loan.base) end
   pub run_is : run ≡ end.run

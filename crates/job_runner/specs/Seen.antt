@@ -29,10 +29,13 @@ pub readable_fits : (l : Lent) (w : ℕ) → readable l w ≡ true → w < 2 ^ 3
 readable_fits l w e = word_fits l.base w (and_parts (is_word_of l.base w) (may_read l.permit w) e).0
 
 pub writable_fits : (l : Lent) (w : ℕ) → writable l w ≡ true → w < 2 ^ 32
-writable_fits l w e = word_fits l.base w (and_parts (is_word_of l.base w) (may_write l.permit w) e).0
+writable_fits l w e =
+    word_fits l.base w (and_parts (is_word_of l.base w) (may_write l.permit w) e).0
 
 pub free_to_read_fits : (t : Top) (w : ℕ) → free_to_read t w ≡ true → w < 2 ^ 32
-free_to_read_fits t w e = word_fits t.values w (and_parts (is_word_of t.values w) (not (lent_out t.loans w)) e).0
+free_to_read_fits t w e =
+    word_fits t.values w (and_parts (is_word_of t.values w) (not (lent_out t.loans w)) e).0
 
 pub free_to_write_fits : (t : Top) (w : ℕ) → free_to_write t w ≡ true → w < 2 ^ 32
-free_to_write_fits t w e = word_fits t.values w (and_parts (is_word_of t.values w) (not (seen_by t.loans w)) e).0
+free_to_write_fits t w e =
+    word_fits t.values w (and_parts (is_word_of t.values w) (not (seen_by t.loans w)) e).0

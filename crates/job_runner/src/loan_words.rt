@@ -4,8 +4,8 @@ ghost use Rattle.std.specs.Prelude.{◌≡◌};
 use machine_code::Words;
 use shared_store::{JobSeat, SharedStore};
 
-/// The words of a store by the seat of a loan of it. The job may read and write the words of the loan's permit, and the touches are
-/// those of the seat.
+/// The words of a store by the seat of a loan of it. The job may read and write the words of the
+/// loan's permit, and the touches are those of the seat.
 pub(crate) struct LoanWords<'a> {
     pub(crate) store: &'a SharedStore,
     pub(crate) seat: JobSeat,

@@ -4,8 +4,8 @@ ghost use Rattle.std.specs.Prelude.{◌≡◌};
 use machine_code::Words;
 use shared_store::{RootSeat, SharedStore};
 
-/// The words of a store by its root's seat: those that no live loan may write may be read, and those that none may read may be
-/// written. They tell no touches.
+/// The words of a store by its root's seat: those that no live loan may write may be read, and
+/// those that none may read may be written. They tell no touches.
 pub struct RootWords<'a> {
     store: &'a SharedStore,
     root: RootSeat,
@@ -34,7 +34,8 @@ impl<'a> RootWords<'a> {
 impl<'a> Words for RootWords<'a> {
     ghost use Rattle.std.specs.Prelude.{◌≡◌, None};
     ghost use Rattle.std.proofs.Common.{refl, ◌∙◌};
-    ghost use Rattle.job_runner.specs.Seen.{free_to_read, free_to_write, free_to_read_fits, free_to_write_fits};
+    ghost use Rattle.job_runner.specs.Seen.{free_to_read, free_to_write, free_to_read_fits};
+    ghost use Rattle.job_runner.specs.Seen.{free_to_write_fits};
 
     ghost values = { λ a. a.root.1.values };
 

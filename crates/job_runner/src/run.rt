@@ -9,10 +9,12 @@ use machine_code::Code;
 use register_machine::run_to_end;
 use shared_store::{JobSeat, SharedStore};
 
-/// Runs a job to its end on the words that it was lent. The code must be faithful for the exchange, the seat that of a loan of this
-/// store that has touched nothing, the run at the loan's start, the loan's base values the stored words of a valid state which the
-/// start fits, and each touch of the job's meaning there one that the loan's permit lets. The run comes back at the end to which
-/// the machine comes alone on the base values, whatever other seats do meanwhile. The seat comes back with the job's touches.
+/// Runs a job to its end on the words that it was lent. The code must be faithful for the exchange,
+/// the seat that of a loan of this store that has touched nothing, the run at the loan's start, the
+/// loan's base values the stored words of a valid state which the start fits, and each touch of the
+/// job's meaning there one that the loan's permit lets. The run comes back at the end to which the
+/// machine comes alone on the base values, whatever other seats do meanwhile. The seat comes back
+/// with the job's touches.
 pub fn run_job(
     exchange: &Exchange,
     store: &SharedStore,

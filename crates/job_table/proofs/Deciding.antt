@@ -40,8 +40,10 @@ decides x b (one ∷ front) rest line list f right wrong =
     ∙ ap (λ r. and_then r (λ ps. Ok (cons_option here.0 ps))) later
 
 pub first_faulty : (x : Exchange) (signals : ℕ) (front rest : List (List ℕ)) (line : List ℕ) (list : List Period) (f : TableFault)
-    → periods_behind x (beside signals) front ≡ Ok list → added x (counted_of signals front list) line ≡ Err f → periods_behind x (beside signals) (front ++ line ∷ rest) ≡ Err f
+    → periods_behind x (beside signals) front ≡ Ok list → added x (counted_of signals front list) line ≡ Err f
+    → periods_behind x (beside signals) (front ++ line ∷ rest) ≡ Err f
 first_faulty x signals front rest line list f right wrong =
     let lines_same : 0 + length front ≡ length front = omega arith in
-    let before : counted (beside signals) front list ≡ counted_of signals front list = λ i. record { lines = lines_same i; signals = signals + times_in list } in
+    let before : counted (beside signals) front list ≡ counted_of signals front list =
+    λ i. record { lines = lines_same i; signals = signals + times_in list } in
     decides x (beside signals) front rest line list f right (ap (λ q. added x q line) before ∙ wrong)

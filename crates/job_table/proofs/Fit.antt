@@ -1,5 +1,8 @@
 -- Merged lines fit the exchange.
-use Rattle.std.proofs.Common.{◌≡◌, ℕ, zero, suc, ◌+◌, ◌<◌, ◌≤◌, ◌^◌, ◌⊎◌, inl, inr, Bool, true, false, not, cond, nat_eq, List, [], ◌∷◌, ◌++◌, length, map, slice_get, Option, Some, None, refl, sym, ap, subst, ◌∙◌, append_assoc, length-append, arith}
+use Rattle.std.proofs.Common.{◌≡◌, ℕ, zero, suc, ◌+◌, ◌<◌, ◌≤◌, ◌^◌, ◌⊎◌, inl, inr, Bool, true}
+use Rattle.std.proofs.Common.{false, not, cond, nat_eq, List, [], ◌∷◌, ◌++◌, length, map, slice_get}
+use Rattle.std.proofs.Common.{Option, Some, None, refl, sym, ap, subst, ◌∙◌, append_assoc}
+use Rattle.std.proofs.Common.{length-append, arith}
 use Rattle.std.specs.Prelude.{nat_le, if◌then◌else◌, Ok}
 use Rattle.std.specs.List.{AllByRecursion, flat_map, position_or_len, range_with_len}
 use Rattle.std.specs.Option.{option_map, unwrap_or}
@@ -14,17 +17,20 @@ use Rattle.signal_file.specs.declared.line.LineKind.TheVariants.{Bare, Fresh, Sa
 use Rattle.signal_file.specs.Lines.{signal_lines}
 use Rattle.signal_file.specs.Rules.{gives}
 use Rattle.source_meaning.specs.State.{Coming}
-use Rattle.source_meaning.specs.Valid.{HasOrigin, IsWord, LineFits, LinesFit, NamesEarlier, entry_count}
+use Rattle.source_meaning.specs.Valid.{HasOrigin, IsWord, LineFits, LinesFit, NamesEarlier}
+use Rattle.source_meaning.specs.Valid.{entry_count}
 use Rattle.run_books.specs.Lines.{coming_of, origin_of}
 use Rattle.run_books.proofs.Fitting.{all_coming, got_coming, signal_lines_fit}
 use Rattle.job_table.specs.declared.period.Period.{Period}
 use Rattle.job_table.specs.Fit.{AreNumberedFrom, Rises}
-use Rattle.job_table.specs.Merged.{all_lines, by_count, has_number, line_at, lines_of, merged, number_in, numbered_from, placed_in, renamed, renumbered}
+use Rattle.job_table.specs.Merged.{all_lines, by_count, has_number, line_at, lines_of, merged}
+use Rattle.job_table.specs.Merged.{number_in, numbered_from, placed_in, renamed, renumbered}
 use Rattle.job_table.specs.Table.{table_periods}
 use Rattle.job_table.proofs.Fitted.{PeriodFits, periods_fit}
 use Rattle.job_table.proofs.Numbering.{numbered-cons, numbered-nil, numbered-push}
 use Rattle.job_table.proofs.Signals.{IsSound, signal_lines_sound}
-use Rattle.job_table.proofs.Sorting.{not_up, all_by_count, by_count-cons, by_count-nil, placed_alone, placed_first, placed_later, rises-by_count}
+use Rattle.job_table.proofs.Sorting.{not_up, all_by_count, by_count-cons, by_count-nil}
+use Rattle.job_table.proofs.Sorting.{placed_alone, placed_first, placed_later, rises-by_count}
 use Rattle.job_table.proofs.Turns.{turn_small}
 
 -- a line is one of these
@@ -93,11 +99,13 @@ had_coming P g (m ∷ ls) all (inl is) = subst (λ (q : Line). P (coming_of q)) 
 had_coming P g (m ∷ ls) all (inr later) = had_coming P g ls all.1 later
 
 -- the numbers of the rest are above that of a line before
-numbers_above : (x : Exchange) (g : Line) (done rest : List Line) → Has g done → LinesFit x (map coming_of done) (map coming_of rest) → AllByRecursion (λ (m : Line). g.number < m.number) rest
+numbers_above : (x : Exchange) (g : Line) (done rest : List Line) → Has g done
+    → LinesFit x (map coming_of done) (map coming_of rest) → AllByRecursion (λ (m : Line). g.number < m.number) rest
 numbers_above x g done [] has fit = tt
 numbers_above x g done (l ∷ rest) has fit = (
   had_coming (λ e. e.number < l.number) g done fit.0.number has,
-  numbers_above x g (done ++ l ∷ []) rest (has_last g l done (inr has)) (subst (λ us. LinesFit x us (map coming_of rest)) (sym (map-append coming_of done (l ∷ []))) fit.1),
+  numbers_above x g (done ++ l ∷ []) rest (has_last g l done (inr has))
+      (subst (λ us. LinesFit x us (map coming_of rest)) (sym (map-append coming_of done (l ∷ []))) fit.1),
 )
 
 pub lines_of_coming : (P : Coming → Type 0) (ls : List Line) → AllByRecursion P (map coming_of ls) → AllByRecursion (λ (l : Line). P (coming_of l)) ls
@@ -105,16 +113,23 @@ lines_of_coming P [] all = tt
 lines_of_coming P (l ∷ ls) all = (all.0, lines_of_coming P ls all.1)
 
 -- what holds of a line holds of each that has its number: no other line has
-only_one : (Q : Line → Type 0) (x : Exchange) (g : Line) (done rest : List Line) → LinesFit x (map coming_of done) (map coming_of rest) → Has g rest → Q g → AllByRecursion (λ (m : Line). m.number ≡ g.number → Q m) (done ++ rest)
+only_one : (Q : Line → Type 0) (x : Exchange) (g : Line) (done rest : List Line)
+    → LinesFit x (map coming_of done) (map coming_of rest) → Has g rest → Q g
+    → AllByRecursion (λ (m : Line). m.number ≡ g.number → Q m) (done ++ rest)
 only_one Q x g done [] fit has own = absurd has
 only_one Q x g done (l ∷ rest) fit (inl is) own =
     let numbers : AllByRecursion (λ (m : Line). m.number < l.number) done = lines_of_coming (λ e. e.number < l.number) done fit.0.number in
     let above : AllByRecursion (λ (m : Line). l.number < m.number) rest =
-    numbers_above x l (done ++ l ∷ []) rest (has_last l l done (inl refl)) (subst (λ us. LinesFit x us (map coming_of rest)) (sym (map-append coming_of done (l ∷ []))) fit.1) in
+    numbers_above x l (done ++ l ∷ []) rest (has_last l l done (inl refl))
+    (subst (λ us. LinesFit x us (map coming_of rest)) (sym (map-append coming_of done (l ∷ []))) fit.1) in
     let same : g.number ≡ l.number = ap (λ (q : Line). q.number) is in
     all_append (λ (m : Line). m.number ≡ g.number → Q m) done (l ∷ rest)
-    (all_weaker (λ (m : Line). m.number < l.number) (λ (m : Line). m.number ≡ g.number → Q m) done (λ m less e. absurd (omega (arith, less, e, same))) numbers)
-    ((λ e. subst Q is own), all_weaker (λ (m : Line). l.number < m.number) (λ (m : Line). m.number ≡ g.number → Q m) rest (λ m less e. absurd (omega (arith, less, e, same))) above)
+    (all_weaker (λ (m : Line). m.number < l.number) (λ (m : Line). m.number ≡ g.number → Q m) done
+    (λ m less e. absurd (omega (arith, less, e, same))) numbers) (
+      (λ e. subst Q is own),
+      all_weaker (λ (m : Line). l.number < m.number) (λ (m : Line). m.number ≡ g.number → Q m)
+          rest (λ m less e. absurd (omega (arith, less, e, same))) above,
+    )
 only_one Q x g done (l ∷ rest) fit (inr later) own =
     subst (AllByRecursion (λ (m : Line). m.number ≡ g.number → Q m)) (append_assoc done (l ∷ []) rest)
     (only_one Q x g (done ++ l ∷ []) rest (subst (λ us. LinesFit x us (map coming_of rest)) (sym (map-append coming_of done (l ∷ []))) fit.1) later own)
@@ -130,7 +145,8 @@ giver_gives Fresh has = refl
 giver_gives Bare has = absurd has
 giver_gives (Same line) has = refl
 
-owes_from : (all done seen : List Line) (l : Line) (kind : LineKind) → ((g : Line) → Has g done → Has g seen) → ((g : Line) → Has g done → gives g.kind ≡ true → Gives all g.number)
+owes_from : (all done seen : List Line) (l : Line) (kind : LineKind) → ((g : Line) → Has g done → Has g seen)
+    → ((g : Line) → Has g done → gives g.kind ≡ true → Gives all g.number)
     → AllByRecursion (λ (e : Coming). e.after ≤ l.after) (map coming_of done) → NamesEarlier (map coming_of done) (origin_of kind) → Owes all seen l kind
 owes_from all done seen l Fresh more only after names = tt
 owes_from all done seen l Bare more only after names = tt
@@ -147,12 +163,14 @@ owes_from all done seen l (Same number) more only after names =
       all_give = subst (Gives all) is (only g there.1 giving);
     }
 
-origins_from : (x : Exchange) (all done seen rest : List Line) → ((g : Line) → Has g done → Has g seen) → ((g : Line) → Has g (done ++ rest) → gives g.kind ≡ true → Gives all g.number)
+origins_from : (x : Exchange) (all done seen rest : List Line) → ((g : Line) → Has g done → Has g seen)
+    → ((g : Line) → Has g (done ++ rest) → gives g.kind ≡ true → Gives all g.number)
     → LinesFit x (map coming_of done) (map coming_of rest) → Origins all seen rest
 origins_from x all done seen [] more only fit = tt
 origins_from x all done seen (l ∷ rest) more only fit = (
   owes_from all done seen l l.kind more (λ g has giving. only g (had_front g done (l ∷ rest) has) giving) fit.0.after fit.0.origin,
-  origins_from x all (done ++ l ∷ []) (l ∷ seen) rest (λ g has. back g has) (λ g has giving. only g (subst (Has g) (append_assoc done (l ∷ []) rest) has) giving)
+  origins_from x all (done ++ l ∷ []) (l ∷ seen) rest (λ g has. back g has)
+      (λ g has giving. only g (subst (Has g) (append_assoc done (l ∷ []) rest) has) giving)
       (subst (λ us. LinesFit x us (map coming_of rest)) (sym (map-append coming_of done (l ∷ []))) fit.1),
 )
   where
@@ -194,7 +212,8 @@ origins_append : (all seen xs ys : List Line) → Origins all seen xs → AllByR
 origins_append all seen [] ys o own = own_origins all seen ys own
 origins_append all seen (l ∷ xs) ys o own = (o.0, origins_append all (l ∷ seen) xs ys o.1 own)
 
--- a line that is put in front of others of its count or greater ones goes behind those that it names
+-- a line that is put in front of others of its count or greater ones goes behind those that it
+-- names
 earlier_owes : (all seen : List Line) (l m : Line) (kind : LineKind) → m.after < l.after → Owes all (l ∷ seen) m kind → Owes all seen m kind
 earlier_owes all seen l m Fresh less o = tt
 earlier_owes all seen l m Bare less o = tt
@@ -216,13 +235,15 @@ origins_placed all seen l (m ∷ rest) own o = elim (cases_Bool (nat_le l.after 
   | inr down ↦
       subst (Origins all seen) (sym (placed_later l m rest down)) (
         earlier_owes all seen l m m.kind (not_up l.after m.after down) o.0,
-        origins_placed all (m ∷ seen) l rest (owes_more all seen (m ∷ seen) l l.kind (λ g has. inr has) own) (origins_more all (m ∷ l ∷ seen) (l ∷ m ∷ seen) rest (swapped l m seen) o.1),
+        origins_placed all (m ∷ seen) l rest (owes_more all seen (m ∷ seen) l l.kind (λ g has. inr has) own)
+            (origins_more all (m ∷ l ∷ seen) (l ∷ m ∷ seen) rest (swapped l m seen) o.1),
       )
 ]
 
 origins_by_count : (all seen ls : List Line) → Origins all seen ls → Origins all seen (by_count ls)
 origins_by_count all seen [] o = subst (Origins all seen) (sym by_count-nil) tt
-origins_by_count all seen (l ∷ ls) o = subst (Origins all seen) (sym (by_count-cons l ls)) (origins_placed all seen l (by_count ls) o.0 (origins_by_count all (l ∷ seen) ls o.1))
+origins_by_count all seen (l ∷ ls) o = subst (Origins all seen) (sym (by_count-cons l ls))
+    (origins_placed all seen l (by_count ls) o.0 (origins_by_count all (l ∷ seen) ls o.1))
 
 -- ---- the signals of a table
 
@@ -250,15 +271,18 @@ turn_is x p turn fits before = record {
   own = own_kind p.fresh;
 }
 
-turns_are : (x : Exchange) (p : Period) → PeriodFits x p → (first many : ℕ) → first + many ≤ p.times → AllByRecursion (IsTurn x) (map (line_at p) (range_with_len first many))
+turns_are : (x : Exchange) (p : Period) → PeriodFits x p → (first many : ℕ) → first + many ≤ p.times
+    → AllByRecursion (IsTurn x) (map (line_at p) (range_with_len first many))
 turns_are x p fits first zero few = tt
 turns_are x p fits first (suc many) few = (turn_is x p first fits (omega arith), turns_are x p fits (first + 1) many (omega arith))
 
 periods_are : (x : Exchange) (periods : List Period) → AllByRecursion (PeriodFits x) periods → AllByRecursion (IsTurn x) (flat_map lines_of periods)
 periods_are x [] fits = tt
-periods_are x (p ∷ periods) fits = all_append (IsTurn x) (lines_of p) (flat_map lines_of periods) (turns_are x p fits.0 0 p.times (omega arith)) (periods_are x periods fits.1)
+periods_are x (p ∷ periods) fits = all_append (IsTurn x) (lines_of p) (flat_map lines_of periods)
+    (turns_are x p fits.0 0 p.times (omega arith)) (periods_are x periods fits.1)
 
-lines_are : (x : Exchange) (done rest : List Line) → LinesFit x (map coming_of done) (map coming_of rest) → AllByRecursion IsSound rest → AllByRecursion (IsFine x) rest
+lines_are : (x : Exchange) (done rest : List Line) → LinesFit x (map coming_of done) (map coming_of rest)
+    → AllByRecursion IsSound rest → AllByRecursion (IsFine x) rest
 lines_are x done [] fit sound = tt
 lines_are x done (l ∷ rest) fit sound = (
   record { entry = fit.0.entry; values = fit.0.values; words = fit.0.words; after = sound.0.after },
@@ -310,22 +334,31 @@ number_is number done more f =
     let inside = f.inside in
     let first = f.first in
     let longer = length-append done more in
-    ap (option_map (λ place. place + 1)) (sym (cond_below n (length (done ++ more)) (Some n) None (omega (arith, inside, first, longer)))) ∙ ap (λ (k : ℕ). Some (k + 1)) first
+    ap (option_map (λ place. place + 1)) (sym (cond_below n (length (done ++ more)) (Some n) None
+    (omega (arith, inside, first, longer)))) ∙ ap (λ (k : ℕ). Some (k + 1)) first
 
-pub got_numbered : (new : ℕ → Option ℕ) (from : ℕ) (ls : List Line) (i : ℕ) (l : Line) (number : ℕ) → slice_get ls i ≡ Some l → number ≡ from + i → slice_get (numbered_from new from ls) i ≡ Some (renumbered new number l)
+pub got_numbered : (new : ℕ → Option ℕ) (from : ℕ) (ls : List Line) (i : ℕ) (l : Line) (number : ℕ)
+    → slice_get ls i ≡ Some l → number ≡ from + i
+    → slice_get (numbered_from new from ls) i ≡ Some (renumbered new number l)
 got_numbered new from [] i l number is n = absurd (none-some l is)
 got_numbered new from (k ∷ ls) zero l number is n =
     ap (λ ms. slice_get ms 0) (numbered-cons new from k ls)
     ∙ ap (λ (q : Line). Some (renumbered new from q)) (same_Some k l is) ∙ ap (λ (m : ℕ). Some (renumbered new m l)) (omega (arith, n))
-got_numbered new from (k ∷ ls) (suc i) l number is n = ap (λ ms. slice_get ms (suc i)) (numbered-cons new from k ls) ∙ got_numbered new (from + 1) ls i l number is (omega (arith, n))
+got_numbered new from (k ∷ ls) (suc i) l number is n = ap (λ ms. slice_get ms (suc i)) (numbered-cons new from k ls)
+    ∙ got_numbered new (from + 1) ls i l number is (omega (arith, n))
 
-pub all_numbered : (P : Line → Type 0) (new : ℕ → Option ℕ) (from : ℕ) (ls : List Line) → ((l : Line) (n : ℕ) → P l → P (renumbered new n l)) → AllByRecursion P ls → AllByRecursion P (numbered_from new from ls)
+pub all_numbered : (P : Line → Type 0) (new : ℕ → Option ℕ) (from : ℕ) (ls : List Line)
+    → ((l : Line) (n : ℕ) → P l → P (renumbered new n l)) → AllByRecursion P ls
+    → AllByRecursion P (numbered_from new from ls)
 all_numbered P new from [] keeps all = subst (AllByRecursion P) (sym (numbered-nil new from)) tt
-all_numbered P new from (l ∷ ls) keeps all = subst (AllByRecursion P) (sym (numbered-cons new from l ls)) (keeps l from all.0, all_numbered P new (from + 1) ls keeps all.1)
+all_numbered P new from (l ∷ ls) keeps all = subst (AllByRecursion P) (sym (numbered-cons new from l ls))
+    (keeps l from all.0, all_numbered P new (from + 1) ls keeps all.1)
 
-numbers_below : (new : ℕ → Option ℕ) (from : ℕ) (ls : List Line) (top : ℕ) → from + length ls ≤ top → AllByRecursion (λ (l : Line). l.number < top) (numbered_from new from ls)
+numbers_below : (new : ℕ → Option ℕ) (from : ℕ) (ls : List Line) (top : ℕ) → from + length ls ≤ top
+    → AllByRecursion (λ (l : Line). l.number < top) (numbered_from new from ls)
 numbers_below new from [] top le = subst (AllByRecursion (λ (l : Line). l.number < top)) (sym (numbered-nil new from)) tt
-numbers_below new from (l ∷ ls) top le = subst (AllByRecursion (λ (l : Line). l.number < top)) (sym (numbered-cons new from l ls)) (omega (arith, le), numbers_below new (from + 1) ls top (omega (arith, le)))
+numbers_below new from (l ∷ ls) top le = subst (AllByRecursion (λ (l : Line). l.number < top))
+    (sym (numbered-cons new from l ls)) (omega (arith, le), numbers_below new (from + 1) ls top (omega (arith, le)))
 
 pub numbered_are : (new : ℕ → Option ℕ) (from : ℕ) (ls : List Line) → AreNumberedFrom from (numbered_from new from ls)
 numbered_are new from [] = subst (AreNumberedFrom from) (sym (numbered-nil new from)) tt
@@ -347,24 +380,35 @@ all_got P (k ∷ ls) zero l all is = subst P (same_Some k l is) all.0
 all_got P (k ∷ ls) (suc i) l all is = all_got P ls i l all.1 is
 
 -- a line names one before it by its new number
-names_new : (all done more seen : List Line) (l : Line) (kind : LineKind) → ((n : ℕ) → Gives all n → Gives (done ++ more) n) → ((g : Line) → Has g seen → Has g done) → Owes all seen l kind
+names_new : (all done more seen : List Line) (l : Line) (kind : LineKind)
+    → ((n : ℕ) → Gives all n → Gives (done ++ more) n) → ((g : Line) → Has g seen → Has g done) → Owes all seen l kind
     → NamesEarlier (map coming_of (numbered_from (number_in (done ++ more)) 1 done)) (origin_of (renamed (number_in (done ++ more)) kind))
 names_new all done more seen l Fresh sorted had o = tt
 names_new all done more seen l Bare sorted had o = tt
 names_new all done more seen l (Same number) sorted had o =
     let new : ℕ → Option ℕ = number_in (done ++ more) in
     let f : First number done more = first_from number done more o.giver (had o.giver o.has) o.is in
-    let giving : gives f.line.kind ≡ true = all_got (λ m. m.number ≡ number → gives m.kind ≡ true) done f.place f.line (all_left (λ m. m.number ≡ number → gives m.kind ≡ true) done more (sorted number o.all_give)) f.there f.is in (
+    let giving : gives f.line.kind ≡ true = all_got (λ m. m.number ≡ number → gives m.kind ≡ true) done f.place f.line
+    (all_left (λ m. m.number ≡ number → gives m.kind ≡ true) done more (sorted number o.all_give)) f.there f.is in (
       coming_of (renumbered new (f.place + 1) f.line),
-      (f.place, got_coming (numbered_from new 1 done) f.place (renumbered new (f.place + 1) f.line) (got_numbered new 1 done f.place f.line (f.place + 1) f.there (omega arith))),
+      (
+        f.place,
+        got_coming (numbered_from new 1 done) f.place (renumbered new (f.place + 1) f.line)
+            (got_numbered new 1 done f.place f.line (f.place + 1) f.there (omega arith)),
+      ),
       ap (λ (q : Option ℕ). unwrap_or q 0) (sym (number_is number done more f)),
       has_origin new f.line.kind giving,
     )
 
-numbered_fit : (x : Exchange) (all done seen rest : List Line) → ((n : ℕ) → Gives all n → Gives (done ++ rest) n) → ((g : Line) → Has g seen → Has g done) → Origins all seen rest → Rises (done ++ rest) → AllByRecursion (IsFine x) rest
-    → (sorted : List Line) → sorted ≡ done ++ rest → LinesFit x (map coming_of (numbered_from (number_in sorted) 1 done)) (map coming_of (numbered_from (number_in sorted) (1 + length done) rest))
+numbered_fit : (x : Exchange) (all done seen rest : List Line) → ((n : ℕ) → Gives all n → Gives (done ++ rest) n)
+    → ((g : Line) → Has g seen → Has g done) → Origins all seen rest → Rises (done ++ rest)
+    → AllByRecursion (IsFine x) rest
+    → (sorted : List Line) → sorted ≡ done ++ rest
+    → LinesFit x (map coming_of (numbered_from (number_in sorted) 1 done))
+    (map coming_of (numbered_from (number_in sorted) (1 + length done) rest))
 numbered_fit x all done seen [] kept had o rises fine sorted is =
-    subst (λ ls. LinesFit x (map coming_of (numbered_from (number_in sorted) 1 done)) (map coming_of ls)) (sym (numbered-nil (number_in sorted) (1 + length done))) tt
+    subst (λ ls. LinesFit x (map coming_of (numbered_from (number_in sorted) 1 done)) (map coming_of ls))
+    (sym (numbered-nil (number_in sorted) (1 + length done))) tt
 numbered_fit x all done seen (l ∷ rest) kept had o rises fine sorted is =
     let new : ℕ → Option ℕ = number_in sorted in
     let before : List Line = numbered_from new 1 done in
@@ -384,9 +428,13 @@ numbered_fit x all done seen (l ∷ rest) kept had o rises fine sorted is =
           (names_new all done (l ∷ rest) seen l l.kind kept had o.0);
     } in
     let later : LinesFit x (map coming_of (numbered_from new 1 (done ++ l ∷ []))) (map coming_of (numbered_from new (1 + length (done ++ l ∷ [])) rest)) =
-    numbered_fit x all (done ++ l ∷ []) (l ∷ seen) rest (λ n g. subst (λ ls. Gives ls n) (sym whole) (kept n g)) (λ g has. has_last g l done (more_had g has)) o.1 (subst Rises (sym whole) rises) fine.1 sorted (is ∙ sym whole) in
+    numbered_fit x all (done ++ l ∷ []) (l ∷ seen) rest (λ n g. subst (λ ls. Gives ls n) (sym whole) (kept n g))
+    (λ g has. has_last g l done (more_had g has)) o.1 (subst Rises (sym whole) rises) fine.1 sorted (is ∙ sym whole)
+    in
     let next : LinesFit x (map coming_of before ++ coming_of own ∷ []) (map coming_of (numbered_from new (1 + length done + 1) rest)) =
-    subst (λ us. LinesFit x us (map coming_of (numbered_from new (1 + length done + 1) rest))) pushed (subst (λ n. LinesFit x (map coming_of (numbered_from new 1 (done ++ l ∷ []))) (map coming_of (numbered_from new n rest))) (omega (arith, longer)) later) in
+    subst (λ us. LinesFit x us (map coming_of (numbered_from new (1 + length done + 1) rest))) pushed
+    (subst (λ n. LinesFit x (map coming_of (numbered_from new 1 (done ++ l ∷ [])))
+    (map coming_of (numbered_from new n rest))) (omega (arith, longer)) later) in
     subst (λ ls. LinesFit x (map coming_of before) (map coming_of ls)) (sym (numbered-cons new (1 + length done) l rest)) (here, next)
   where
     more_had : (g : Line) → Has g (l ∷ seen) → (g ≡ l) ⊎ Has g done
@@ -395,7 +443,9 @@ numbered_fit x all done seen (l ∷ rest) kept had o rises fine sorted is =
 
 -- ---- all together
 
-module _ (x : Exchange) (signals table : List ℕ) (lines : List Line) (periods : List Period) (lines_read : signal_lines x signals ≡ Ok lines) (table_read : table_periods x (length lines) table ≡ Ok periods) where
+module _ (x : Exchange) (signals table : List ℕ) (lines : List Line) (periods : List Period)
+    (lines_read : signal_lines x signals ≡ Ok lines)
+    (table_read : table_periods x (length lines) table ≡ Ok periods) where
   sound : AllByRecursion IsSound lines
   sound = signal_lines_sound x signals lines lines_read
 
@@ -409,26 +459,33 @@ module _ (x : Exchange) (signals table : List ℕ) (lines : List Line) (periods 
   only_all Q g has own =
       let some : 1 ≤ g.number = (has_all IsSound g lines sound has).number in
       all_append (λ (m : Line). m.number ≡ g.number → Q m) lines (flat_map lines_of periods) (only_one Q x g [] lines fit has own)
-      (all_weaker (IsTurn x) (λ (m : Line). m.number ≡ g.number → Q m) (flat_map lines_of periods) (λ m t e. let n = t.number in absurd (omega (arith, n, e, some))) turns)
+      (all_weaker (IsTurn x) (λ (m : Line). m.number ≡ g.number → Q m) (flat_map lines_of periods)
+      (λ m t e. let n = t.number in absurd (omega (arith, n, e, some))) turns)
 
   origins : Origins (all_lines lines periods) [] (all_lines lines periods)
   origins =
-      origins_append (all_lines lines periods) [] lines (flat_map lines_of periods) (origins_from x (all_lines lines periods) [] [] lines (λ g has. has) (λ g has giving. only_all (λ (m : Line). gives m.kind ≡ true) g has giving) fit)
+      origins_append (all_lines lines periods) [] lines (flat_map lines_of periods)
+      (origins_from x (all_lines lines periods) [] [] lines (λ g has. has)
+      (λ g has giving. only_all (λ (m : Line). gives m.kind ≡ true) g has giving) fit)
       (all_weaker (IsTurn x) (λ (m : Line). IsOwn m.kind) (flat_map lines_of periods) (λ m t. t.own) turns)
 
   fine : AllByRecursion (IsFine x) (by_count (all_lines lines periods))
   fine =
       all_by_count (IsFine x) (all_lines lines periods)
-      (all_append (IsFine x) lines (flat_map lines_of periods) (lines_are x [] lines fit sound) (all_weaker (IsTurn x) (IsFine x) (flat_map lines_of periods) (λ m t. t.fine) turns))
+      (all_append (IsFine x) lines (flat_map lines_of periods) (lines_are x [] lines fit sound)
+      (all_weaker (IsTurn x) (IsFine x) (flat_map lines_of periods) (λ m t. t.fine) turns))
 
   pub merged_fit : LinesFit x [] (map coming_of (merged lines periods))
   merged_fit =
       let sorted : List Line = by_count (all_lines lines periods) in
       subst (λ ls. LinesFit x (map coming_of ls) (map coming_of (merged lines periods))) (numbered-nil (number_in sorted) 1)
-      (numbered_fit x (all_lines lines periods) [] [] sorted (λ n g. all_by_count (λ (m : Line). m.number ≡ n → gives m.kind ≡ true) (all_lines lines periods) g) (λ g has. has)
+      (numbered_fit x (all_lines lines periods) [] [] sorted
+      (λ n g. all_by_count (λ (m : Line). m.number ≡ n → gives m.kind ≡ true) (all_lines lines periods) g)
+      (λ g has. has)
       (origins_by_count (all_lines lines periods) [] (all_lines lines periods) origins) (rises-by_count (all_lines lines periods)) fine sorted refl)
 
   pub merged_small : AllByRecursion (λ (l : Line). l.after < 2 ^ 32) (merged lines periods)
   merged_small =
       let sorted : List Line = by_count (all_lines lines periods) in
-      all_numbered (λ (l : Line). l.after < 2 ^ 32) (number_in sorted) 1 sorted (λ l n small. small) (all_weaker (IsFine x) (λ (l : Line). l.after < 2 ^ 32) sorted (λ l f. f.after) fine)
+      all_numbered (λ (l : Line). l.after < 2 ^ 32) (number_in sorted) 1 sorted (λ l n small. small)
+      (all_weaker (IsFine x) (λ (l : Line). l.after < 2 ^ 32) sorted (λ l f. f.after) fine)

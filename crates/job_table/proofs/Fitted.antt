@@ -1,5 +1,6 @@
 -- What is known of each period of a table.
-use Rattle.std.proofs.Common.{◌≡◌, ℕ, ◌+◌, ◌<◌, ◌^◌, Bool, List, [], ◌∷◌, length, sum_by, Option, Some, None, Ok, refl, sym, ap, subst, ◌∙◌, arith}
+use Rattle.std.proofs.Common.{◌≡◌, ℕ, ◌+◌, ◌<◌, ◌^◌, Bool, List, [], ◌∷◌, length, sum_by, Option}
+use Rattle.std.proofs.Common.{Some, None, Ok, refl, sym, ap, subst, ◌∙◌, arith}
 use Rattle.std.specs.List.{AllByRecursion, cons_option}
 use Rattle.std.specs.Str.Lines.{lines}
 use Rattle.std.proofs.lemmas.List.Sums.{sum_by-cons}
@@ -25,11 +26,29 @@ use Rattle.job_table.proofs.Told.{Adds, says, skips, added_few, adds}
 -- the values of a line are numbers of 32 bits
 
 said_values : (every from times : ℕ) (signal block : List ℕ) (o : Option Closing) (s : Saying) → ((c : Closing) → o ≡ Some c → AllByRecursion IsWord c.values)
-    → with o (λ c. with (fresh_of c.kind) (λ fresh. Some (record { every = every; from = from; times = times; signal = signal; block = block; values = c.values; fresh = fresh }))) ≡ Some s → AllByRecursion IsWord s.values
+    → with o (λ c. with (fresh_of c.kind) (λ fresh. Some
+    (record {
+      every = every;
+      from = from;
+      times = times;
+      signal = signal;
+      block = block;
+      values = c.values;
+      fresh = fresh;
+    }))) ≡ Some s → AllByRecursion IsWord s.values
 said_values every from times signal block None s all e = absurd (cc)
 said_values every from times signal block (Some c) s all e = drawn (fresh_of c.kind) e
   where
-    drawn : (o : Option Bool) → with o (λ fresh. Some (record { every = every; from = from; times = times; signal = signal; block = block; values = c.values; fresh = fresh })) ≡ Some s → AllByRecursion IsWord s.values
+    drawn : (o : Option Bool) → with o (λ fresh. Some
+        (record {
+          every = every;
+          from = from;
+          times = times;
+          signal = signal;
+          block = block;
+          values = c.values;
+          fresh = fresh;
+        })) ≡ Some s → AllByRecursion IsWord s.values
     drawn None e = absurd (cc)
     drawn (Some fresh) e = subst (λ (q : Saying). AllByRecursion IsWord q.values) (same_Some _ s e) (all c refl)
 
@@ -41,7 +60,8 @@ signal_values every from times (signal ∷ block ∷ rest) s e = said_values eve
 line_words : (line : List ℕ) (s : Saying) → said_in (words line) ≡ Some s → AllByRecursion IsWord s.values
 unfolding said_in
 line_words line s e =
-    let from_of : Numbered → Numbered → Option Saying = λ every from. with (numbered (codes "TIMES") from.rest) (λ times. signal_in every.number from.number times.number times.rest) in
+    let from_of : Numbered → Numbered → Option Saying = λ every from. with (numbered (codes "TIMES") from.rest)
+    (λ times. signal_in every.number from.number times.number times.rest) in
     let every = went (numbered (codes "EVERY") (words line)) (λ every. with (numbered (codes "FROM") every.rest) (from_of every)) s e in
     let from = went (numbered (codes "FROM") every.0.rest) (from_of every.0) s every.1 in
     let times = went (numbered (codes "TIMES") from.0.rest) (λ times. signal_in every.0.number from.0.number times.number times.rest) s from.1 in
@@ -64,11 +84,13 @@ meant_fits x b s p all m =
       words = subst (AllByRecursion IsWord) (sym m.values) all;
     }
 
-joined : {x : Exchange} {b : Before} {line : List ℕ} {first : Option Period} (ps : List Period) → Adds x b line first → AllByRecursion (PeriodFits x) ps → AllByRecursion (PeriodFits x) (cons_option first ps)
+joined : {x : Exchange} {b : Before} {line : List ℕ} {first : Option Period} (ps : List Period) → Adds x b line first
+    → AllByRecursion (PeriodFits x) ps → AllByRecursion (PeriodFits x) (cons_option first ps)
 joined ps skips all = all
 joined {x = x} {b = b} {line = line} ps (says s p said m) all = (meant_fits x b s p (line_words line s said) m, all)
 
-periods_behind_fit : (x : Exchange) (b : Before) (rest : List (List ℕ)) (list : List Period) → periods_behind x b rest ≡ Ok list → AllByRecursion (PeriodFits x) list
+periods_behind_fit : (x : Exchange) (b : Before) (rest : List (List ℕ)) (list : List Period)
+    → periods_behind x b rest ≡ Ok list → AllByRecursion (PeriodFits x) list
 unfolding periods_behind
 periods_behind_fit x b [] list e = let same : [] ≡ list = cc in subst (AllByRecursion (PeriodFits x)) same tt
 periods_behind_fit x b (line ∷ rest) list e =
@@ -85,7 +107,8 @@ pub times_joined : (first : Option Period) (ps : List Period) → times_in (cons
 times_joined None ps = omega arith
 times_joined (Some p) ps = sum_by-cons (λ (q : Period). q.times) p ps
 
-periods_behind_few : (x : Exchange) (b : Before) (rest : List (List ℕ)) (list : List Period) → periods_behind x b rest ≡ Ok list → b.signals < 2 ^ 32 → b.signals + times_in list < 2 ^ 32
+periods_behind_few : (x : Exchange) (b : Before) (rest : List (List ℕ)) (list : List Period)
+    → periods_behind x b rest ≡ Ok list → b.signals < 2 ^ 32 → b.signals + times_in list < 2 ^ 32
 unfolding periods_behind
 periods_behind_few x b [] list e small = let same : [] ≡ list = cc in subst (λ (ps : List Period). b.signals + times_in ps < 2 ^ 32) same (omega (arith, small))
 periods_behind_few x b (line ∷ rest) list e small =
@@ -97,7 +120,8 @@ periods_behind_few x b (line ∷ rest) list e small =
     let times = times_joined here.0 more.0 in
     subst (λ (ps : List Period). b.signals + times_in ps < 2 ^ 32) same (omega (arith, later, times))
 
-pub periods_fit : (x : Exchange) (signals : ℕ) (text : List ℕ) (list : List Period) → table_periods x signals text ≡ Ok list → AllByRecursion (PeriodFits x) list
+pub periods_fit : (x : Exchange) (signals : ℕ) (text : List ℕ) (list : List Period)
+    → table_periods x signals text ≡ Ok list → AllByRecursion (PeriodFits x) list
 periods_fit x signals text list e = periods_behind_fit x (record { lines = 0; signals = signals }) (lines text) list e
 
 ranges_from : (x : Exchange) (list : List Period) → AllByRecursion (PeriodFits x) list → AllByRecursion IsInRange list
@@ -109,7 +133,9 @@ ranges_from x (p ∷ list) all = (all.0.in_range, ranges_from x list all.1)
 pub table_ranges : (x : Exchange) (signals : ℕ) (text : List ℕ) (list : List Period) → Ok list ≡ table_periods x signals text → AllByRecursion IsInRange list
 table_ranges x signals text list e = ranges_from x list (periods_fit x signals text list (sym e))
 
-pub table_few : (x : Exchange) (lines_before : List Line) (text : List ℕ) (list : List Period) → Ok list ≡ table_periods x (length lines_before) text → length lines_before < 2 ^ 32 → line_count lines_before list < 2 ^ 32
+pub table_few : (x : Exchange) (lines_before : List Line) (text : List ℕ) (list : List Period)
+    → Ok list ≡ table_periods x (length lines_before) text → length lines_before < 2 ^ 32
+    → line_count lines_before list < 2 ^ 32
 table_few x lines_before text list e small = periods_behind_few x (record { lines = 0; signals = length lines_before }) (lines text) list (sym e) small
 
 -- for `search`

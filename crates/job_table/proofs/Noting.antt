@@ -1,5 +1,7 @@
 -- New numbers noted by old ones, line after line.
-use Rattle.std.proofs.Common.{◌≡◌, ℕ, ◌+◌, ◌<◌, ◌≤◌, Bool, true, false, nat_eq, cond, List, [], ◌∷◌, ◌++◌, length, take, get_or, Option, Some, None, position, refl, sym, ap, ◌∙◌, arith}
+use Rattle.std.proofs.Common.{◌≡◌, ℕ, ◌+◌, ◌<◌, ◌≤◌, Bool, true, false, nat_eq, cond, List, [], ◌∷◌}
+use Rattle.std.proofs.Common.{◌++◌, length, take, get_or, Option, Some, None, position, refl, sym}
+use Rattle.std.proofs.Common.{ap, ◌∙◌, arith}
 use Rattle.std.specs.HashMap.{Updates}
 use Rattle.std.specs.Option.{option_map, option_or}
 use Rattle.std.proofs.lemmas.Bool.{eqb-true}
@@ -24,10 +26,14 @@ comes false o n h = sym (option_or-None o)
 pub noted_stays : (p : Places) (old number m : ℕ) → noted p old ≡ Some m → HasNoted p p old number
 noted_stays p old number m there n = stays (nat_eq old n) (noted p n) number m (λ h. ap (noted p) (sym (eqb-true old n h)) ∙ there)
 
-pub noted_comes : (before after : Places) (old number : ℕ) → noted before old ≡ None → Updates nat_eq before.numbers after.numbers old (Some number) → HasNoted before after old number
-noted_comes before after old number none updates n = updates.0 n ∙ comes (nat_eq old n) (noted before n) number (λ h. ap (noted before) (sym (eqb-true old n h)) ∙ none)
+pub noted_comes : (before after : Places) (old number : ℕ) → noted before old ≡ None
+    → Updates nat_eq before.numbers after.numbers old (Some number) → HasNoted before after old number
+noted_comes before after old number none updates n = updates.0 n
+    ∙ comes (nat_eq old n) (noted before n) number (λ h. ap (noted before) (sym (eqb-true old n h)) ∙ none)
 
-number_map : (o : Option ℕ) (t : Bool) (place : ℕ) → option_map (λ place. place + 1) (option_or o (cond t (Some place) None)) ≡ option_or (option_map (λ place. place + 1) o) (cond t (Some (place + 1)) None)
+number_map : (o : Option ℕ) (t : Bool) (place : ℕ)
+    → option_map (λ place. place + 1) (option_or o (cond t (Some place) None))
+    ≡ option_or (option_map (λ place. place + 1) o) (cond t (Some (place + 1)) None)
 number_map None true place = refl
 number_map None false place = refl
 number_map (Some n) true place = refl
@@ -37,7 +43,9 @@ number_map (Some n) false place = refl
 pub noted_begin : (p : Places) (lines : List Line) → ((n : ℕ) → noted p n ≡ None) → ArePlaces p (take 0 lines)
 noted_begin p lines none n = none n
 
-pub noted_more : (before after : Places) (lines : List Line) (i : ℕ) (l : Line) → i < length lines → l ≡ get_or lines i l → ArePlaces before (take i lines) → HasNoted before after l.number (i + 1) → ArePlaces after (take (i + 1) lines)
+pub noted_more : (before after : Places) (lines : List Line) (i : ℕ) (l : Line) → i < length lines
+    → l ≡ get_or lines i l → ArePlaces before (take i lines) → HasNoted before after l.number (i + 1)
+    → ArePlaces after (take (i + 1) lines)
 noted_more before after lines i l inside is are has n =
     let t : Bool = nat_eq l.number n in
     let many : length (take i lines) ≡ i = length-take-le i lines (omega arith) in

@@ -1,5 +1,6 @@
 -- What is known of each line of a signal file: it has a number, and its count is below 2^32.
-use Rattle.std.proofs.Common.{◌≡◌, ℕ, ◌<◌, ◌≤◌, ◌^◌, Bool, true, false, List, [], ◌∷◌, ◌++◌, Option, Some, None, Ok, refl, sym, subst, arith}
+use Rattle.std.proofs.Common.{◌≡◌, ℕ, ◌<◌, ◌≤◌, ◌^◌, Bool, true, false, List, [], ◌∷◌, ◌++◌, Option}
+use Rattle.std.proofs.Common.{Some, None, Ok, refl, sym, subst, arith}
 use Rattle.std.specs.Prelude.{codes, if◌then◌else◌}
 use Rattle.std.specs.List.{AllByRecursion, cons_option}
 use Rattle.std.specs.Str.{bytes_eq}
@@ -20,7 +21,9 @@ use Rattle.signal_file.proofs.Meant.{Adds, IsMeant, adds}
 -- numbers are small
 
 count_small : (b : Bool) (o : Option ℕ) (signal block : List ℕ) (r : Option Closing) (s : Saying) → ((n : ℕ) → o ≡ Some n → n < 2 ^ 32)
-    → (if b then with o (λ n. with r (λ t. Some (record { after = n; signal = signal; block = block; values = t.values; kind = t.kind }))) else None) ≡ Some s → s.after < 2 ^ 32
+    → (if b then with o (λ n. with r (λ t. Some
+    (record { after = n; signal = signal; block = block; values = t.values; kind = t.kind }))) else None) ≡ Some s
+    → s.after < 2 ^ 32
 count_small false o signal block r s each e = absurd (cc)
 count_small true None signal block r s each e = absurd (cc)
 count_small true (Some n) signal block None s each e = absurd (cc)
@@ -32,7 +35,8 @@ said_small [] s e = absurd (cc)
 said_small (a ∷ []) s e = absurd (cc)
 said_small (a ∷ b ∷ []) s e = absurd (cc)
 said_small (a ∷ b ∷ c ∷ []) s e = absurd (cc)
-said_small (first ∷ count ∷ signal ∷ block ∷ rest) s e = count_small (bytes_eq first (codes "AFTER")) (number_of count) signal block (closing rest) s (λ n is. number_small count n is) e
+said_small (first ∷ count ∷ signal ∷ block ∷ rest) s e = count_small (bytes_eq first (codes "AFTER")) (number_of count)
+    signal block (closing rest) s (λ n is. number_small count n is) e
 
 unskipped_small : (b : Bool) (ws : List (List ℕ)) (s : Saying) → (if b then None else said_in ws) ≡ Some s → s.after < 2 ^ 32
 unskipped_small true ws s e = absurd (cc)
@@ -68,11 +72,13 @@ lines_sound : (x : Exchange) (before rest : List (List ℕ)) (list : List Line) 
 unfolding lines_behind
 lines_sound x before [] list e = let same : [] ≡ list = cc in subst (AllByRecursion IsSound) same tt
 lines_sound x before (line ∷ rest) list e =
-    let here = ok_first (added x (before_of before) line) (λ first. and_then (lines_behind x (before ++ line ∷ []) rest) (λ ls. Ok (cons_option first ls))) list e in
+    let here = ok_first (added x (before_of before) line)
+    (λ first. and_then (lines_behind x (before ++ line ∷ []) rest) (λ ls. Ok (cons_option first ls))) list e in
     let more = ok_first (lines_behind x (before ++ line ∷ []) rest) (λ ls. Ok (cons_option here.0 ls)) list here.2 in
     let told_all : Ok (cons_option here.0 more.0) ≡ Ok list = more.2 in
     let same : cons_option here.0 more.0 ≡ list = cc in
-    subst (AllByRecursion IsSound) same (joined here.0 more.0 (sound_added x (before_of before) line here.0 here.1) (lines_sound x (before ++ line ∷ []) rest more.0 more.1))
+    subst (AllByRecursion IsSound) same (joined here.0 more.0 (sound_added x (before_of before) line here.0 here.1)
+    (lines_sound x (before ++ line ∷ []) rest more.0 more.1))
 
 pub signal_lines_sound : (x : Exchange) (text : List ℕ) (list : List Line) → signal_lines x text ≡ Ok list → AllByRecursion IsSound list
 signal_lines_sound x text list e = lines_sound x [] (lines text) list e

@@ -1,5 +1,6 @@
 -- What is known of a line of a table that has no fault.
-use Rattle.std.proofs.Common.{◌≡◌, ℕ, ◌+◌, ◌<◌, ◌≤◌, ◌^◌, Bool, true, false, List, Option, Some, None, Result, Ok, Err, refl, subst, arith}
+use Rattle.std.proofs.Common.{◌≡◌, ℕ, ◌+◌, ◌<◌, ◌≤◌, ◌^◌, Bool, true, false, List, Option, Some}
+use Rattle.std.proofs.Common.{None, Result, Ok, Err, refl, subst, arith}
 use Rattle.std.specs.Prelude.{if◌then◌else◌}
 use Rattle.exchange_model.specs.declared.exchange.Exchange.{Exchange}
 use Rattle.text_lines.specs.Words.{is_skipped, words}
@@ -17,7 +18,8 @@ pub data Adds (x : Exchange) (b : Before) (line : List ℕ) : Option Period → 
   skips : Adds x b line None
   says : (s : Saying) (p : Period) → said_in (words line) ≡ Some s → IsMeant x b s p → Adds x b line (Some p)
 
-adds_said : (x : Exchange) (b : Before) (line : List ℕ) (s : Saying) (m : Result Period TableFault) (r : Option Period) → said_in (words line) ≡ Some s → meaning x b s ≡ m → and_then m (λ p. Ok (Some p)) ≡ Ok r → Adds x b line r
+adds_said : (x : Exchange) (b : Before) (line : List ℕ) (s : Saying) (m : Result Period TableFault) (r : Option Period)
+    → said_in (words line) ≡ Some s → meaning x b s ≡ m → and_then m (λ p. Ok (Some p)) ≡ Ok r → Adds x b line r
 adds_said x b line s (Ok p) r said is e = let same : Some p ≡ r = cc in subst (Adds x b line) same (says s p said (meant x b s p is))
 adds_said x b line s (Err f) r said is e = absurd (cc)
 
@@ -25,7 +27,8 @@ adds_told : (x : Exchange) (b : Before) (line : List ℕ) (o : Option Saying) (r
 adds_told x b line None r said e = absurd (cc)
 adds_told x b line (Some s) r said e = adds_said x b line s (meaning x b s) r said refl e
 
-adds_that : (x : Exchange) (b : Before) (line : List ℕ) (t : Bool) (r : Option Period) → (if t then Ok None else told x b (said_in (words line))) ≡ Ok r → Adds x b line r
+adds_that : (x : Exchange) (b : Before) (line : List ℕ) (t : Bool) (r : Option Period)
+    → (if t then Ok None else told x b (said_in (words line))) ≡ Ok r → Adds x b line r
 adds_that x b line true r e = let same : None ≡ r = cc in subst (Adds x b line) same skips
 adds_that x b line false r e = adds_told x b line (said_in (words line)) r refl e
 

@@ -1,5 +1,7 @@
 -- The signals of the periods, one after the other.
-use Rattle.std.proofs.Common.{◌≡◌, ℕ, zero, suc, ◌+◌, ◌*◌, ◌-◌, ◌<◌, ◌≤◌, ◌^◌, List, [], ◌∷◌, ◌++◌, length, take, get_or, map, sum_by, refl, sym, ap, ◌∙◌, append_assoc, append-nil, length-append, arith}
+use Rattle.std.proofs.Common.{◌≡◌, ℕ, zero, suc, ◌+◌, ◌*◌, ◌-◌, ◌<◌, ◌≤◌, ◌^◌, List, [], ◌∷◌, ◌++◌}
+use Rattle.std.proofs.Common.{length, take, get_or, map, sum_by, refl, sym, ap, ◌∙◌, append_assoc}
+use Rattle.std.proofs.Common.{append-nil, length-append, arith}
 use Rattle.std.specs.List.{AllByRecursion, flat_map, range_with_len}
 use Rattle.std.proofs.lemmas.Nat.{mul-le}
 use Rattle.std.proofs.lemmas.List.{flat_map_more, take_more, take_all}
@@ -8,7 +10,8 @@ use Rattle.std.proofs.lemmas.List.Sums.{sum_by-cons}
 use Rattle.std.proofs.lemmas.List.FromFn.{length-map-range_with_len, map-range_with_len_more}
 use Rattle.signal_file.specs.declared.line.Line.{Line}
 use Rattle.job_table.specs.declared.period.Period.{Period}
-use Rattle.job_table.specs.Merged.{IsInRange, all_lines, by_count, line_at, line_count, lines_of, merged, numbered}
+use Rattle.job_table.specs.Merged.{IsInRange, all_lines, by_count, line_at, line_count, lines_of}
+use Rattle.job_table.specs.Merged.{merged, numbered}
 use Rattle.job_table.proofs.Sorting.{length-by_count}
 
 -- the count of each turn is below 2^32
@@ -30,7 +33,8 @@ pub record Turned (p : Period) (before all : List Line) (turn : ℕ) : Type 0 wh
 pub turned_begin : (p : Period) (before : List Line) → Turned p before before 0
 turned_begin p before = record { so = sym (append-nil before) }
 
-pub turned_more : (p : Period) (before all pushed : List Line) (turn : ℕ) (made : Line) → Turned p before all turn → made ≡ line_at p turn → pushed ≡ all ++ made ∷ [] → Turned p before pushed (turn + 1)
+pub turned_more : (p : Period) (before all pushed : List Line) (turn : ℕ) (made : Line) → Turned p before all turn
+    → made ≡ line_at p turn → pushed ≡ all ++ made ∷ [] → Turned p before pushed (turn + 1)
 turned_more p before all pushed turn made r is added = record {
   so =
       added ∙ ap (λ ls. ls ++ made ∷ []) r.so ∙ append_assoc before (map (line_at p) (range_with_len 0 turn)) (made ∷ [])
@@ -48,7 +52,9 @@ pub record Joined (lines : List Line) (periods : List Period) (i : ℕ) (all : L
 pub joined_begin : (lines : List Line) (periods : List Period) (all : List Line) → all ≡ lines → Joined lines periods 0 all
 joined_begin lines periods all is = record { so = is ∙ sym (append-nil lines) }
 
-pub joined_more : (lines : List Line) (periods : List Period) (i : ℕ) (p : Period) (all pushed : List Line) → i < length periods → p ≡ get_or periods i p → Joined lines periods i all → pushed ≡ all ++ lines_of p → Joined lines periods (i + 1) pushed
+pub joined_more : (lines : List Line) (periods : List Period) (i : ℕ) (p : Period) (all pushed : List Line)
+    → i < length periods → p ≡ get_or periods i p → Joined lines periods i all → pushed ≡ all ++ lines_of p
+    → Joined lines periods (i + 1) pushed
 joined_more lines periods i p all pushed inside is r added = record {
   so =
       added ∙ ap (λ ls. ls ++ lines_of p) r.so ∙ flat_map_more lines_of lines (take i periods) p
@@ -56,7 +62,8 @@ joined_more lines periods i p all pushed inside is r added = record {
       ∙ ap (λ ps. lines ++ flat_map lines_of ps) (sym (take_more periods i p inside));
 }
 
-pub joined_end : (lines : List Line) (periods : List Period) (i : ℕ) (all : List Line) → length periods ≤ i → Joined lines periods i all → all ≡ all_lines lines periods
+pub joined_end : (lines : List Line) (periods : List Period) (i : ℕ) (all : List Line) → length periods ≤ i
+    → Joined lines periods i all → all ≡ all_lines lines periods
 joined_end lines periods i all past r = r.so ∙ ap (λ ps. lines ++ flat_map lines_of ps) (take_all i periods past)
 
 pub ruleset period_pushed = (turn_small, turn_product, turned_begin, turned_more, turned_end)
@@ -78,12 +85,14 @@ length-all_lines lines periods =
     length-append lines (flat_map lines_of periods) ∙ ap (λ n. length lines + n) (length-flat_map lines_of periods ∙ times_counted periods)
 
 -- the sorted lines are few
-pub few_sorted : (lines : List Line) (periods : List Period) (all sorted : List Line) → all ≡ all_lines lines periods → sorted ≡ by_count all → line_count lines periods < 2 ^ 32 → length sorted < 2 ^ 32
+pub few_sorted : (lines : List Line) (periods : List Period) (all sorted : List Line) → all ≡ all_lines lines periods
+    → sorted ≡ by_count all → line_count lines periods < 2 ^ 32 → length sorted < 2 ^ 32
 few_sorted lines periods all sorted all_is sorted_is few =
     let same : length sorted ≡ line_count lines periods = ap length sorted_is ∙ length-by_count all ∙ ap length all_is ∙ length-all_lines lines periods in
     omega (arith, same, few)
 
-pub merged_is : (lines : List Line) (periods : List Period) (all sorted list : List Line) → all ≡ all_lines lines periods → sorted ≡ by_count all → list ≡ numbered sorted → list ≡ merged lines periods
+pub merged_is : (lines : List Line) (periods : List Period) (all sorted list : List Line)
+    → all ≡ all_lines lines periods → sorted ≡ by_count all → list ≡ numbered sorted → list ≡ merged lines periods
 merged_is lines periods all sorted list all_is sorted_is is = is ∙ ap numbered_list (sorted_is ∙ ap by_count all_is)
   where
     numbered_list : List Line → List Line

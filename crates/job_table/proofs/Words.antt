@@ -1,5 +1,7 @@
 -- Words that are written with blanks between them are read again.
-use Rattle.std.proofs.Common.{◌≡◌, ℕ, zero, suc, ◌<◌, ◌^◌, inl, inr, Bool, true, false, cond, nat_eq, List, [], ◌∷◌, ◌++◌, length, map, filter, codes, decimal, Option, Some, None, refl, sym, ap, ◌∙◌, append_assoc, arith}
+use Rattle.std.proofs.Common.{◌≡◌, ℕ, zero, suc, ◌<◌, ◌^◌, inl, inr, Bool, true, false, cond}
+use Rattle.std.proofs.Common.{nat_eq, List, [], ◌∷◌, ◌++◌, length, map, filter, codes, decimal}
+use Rattle.std.proofs.Common.{Option, Some, None, refl, sym, ap, ◌∙◌, append_assoc, arith}
 use Rattle.std.specs.Prelude.{nat_lt, if◌then◌else◌, ◌-◌, take, slice_index}
 use Rattle.std.specs.Char.{is_ascii_digit}
 use Rattle.std.specs.List.{AllByRecursion, list_all, onto_first, slice_split}
@@ -31,11 +33,13 @@ no_blank b above = grind (arith, nat_tests)
 split_word : (w rest : List ℕ) → AllAbove w → slice_split is_blank (w ++ 32 ∷ rest) ≡ w ∷ slice_split is_blank rest
 split_word [] rest all = refl
 split_word (b ∷ w) rest all =
-    ap (λ t. cond t ([] ∷ slice_split is_blank (w ++ 32 ∷ rest)) (onto_first b (slice_split is_blank (w ++ 32 ∷ rest)))) (no_blank b all.0) ∙ ap (onto_first b) (split_word w rest all.1)
+    ap (λ t. cond t ([] ∷ slice_split is_blank (w ++ 32 ∷ rest)) (onto_first b (slice_split is_blank (w ++ 32 ∷ rest))))
+    (no_blank b all.0) ∙ ap (onto_first b) (split_word w rest all.1)
 
 split_last : (w : List ℕ) → AllAbove w → slice_split is_blank w ≡ w ∷ []
 split_last [] all = refl
-split_last (b ∷ w) all = ap (λ t. cond t ([] ∷ slice_split is_blank w) (onto_first b (slice_split is_blank w))) (no_blank b all.0) ∙ ap (onto_first b) (split_last w all.1)
+split_last (b ∷ w) all = ap (λ t. cond t ([] ∷ slice_split is_blank w) (onto_first b (slice_split is_blank w)))
+    (no_blank b all.0) ∙ ap (onto_first b) (split_last w all.1)
 
 kept_word : (w : List ℕ) (parts : List (List ℕ)) → is_some_byte w ≡ true → filter is_some_byte (w ∷ parts) ≡ w ∷ filter is_some_byte parts
 kept_word w parts some = ap (λ t. cond t (w ∷ filter is_some_byte parts) (filter is_some_byte parts)) some
@@ -55,14 +59,18 @@ digit_above b is = grind (arith, nat_tests)
 
 digits_above : (bytes : List ℕ) → list_all is_ascii_digit bytes ≡ true → AllAbove bytes
 digits_above [] all = tt
-digits_above (b ∷ bytes) all = let parts = and_parts (is_ascii_digit b) (list_all is_ascii_digit bytes) all in (digit_above b parts.0, digits_above bytes parts.1)
+digits_above (b ∷ bytes) all = let parts = and_parts (is_ascii_digit b) (list_all is_ascii_digit bytes) all in
+    (digit_above b parts.0, digits_above bytes parts.1)
 
 some_byte : (bytes : List ℕ) → 0 < length bytes → is_some_byte bytes ≡ true
 some_byte [] some = absurd (omega arith)
 some_byte (b ∷ bytes) some = refl
 
 pub decimal_plain : (n : ℕ) → n < 2 ^ 32 → IsPlainWord (decimal n)
-decimal_plain n small = record { some = some_byte (decimal n) (decimal_nonempty n (omega arith)); all = digits_above (decimal n) (decimal_all_digits n (omega arith)) }
+decimal_plain n small = record {
+  some = some_byte (decimal n) (decimal_nonempty n (omega arith));
+  all = digits_above (decimal n) (decimal_all_digits n (omega arith));
+}
 
 above_all : (bytes : List ℕ) → list_all (λ b. nat_lt 32 b) bytes ≡ true → AllAbove bytes
 above_all [] all = tt
@@ -107,7 +115,8 @@ ending_read w (Same line) p small =
     word_first w (codes "AS " ++ decimal line) p
     ∙ ap (λ ws. w ∷ ws) (word_first (codes "AS") (decimal line) plain_as ∙ ap (λ ws. codes "AS" ∷ ws) (word_alone (decimal line) (decimal_plain line small)))
 
-pub tail_read : (w : List ℕ) (values : List ℕ) (kind : LineKind) → IsPlainWord w → AreSmall values → HasSmall kind → words (w ++ (value_words values ++ ending_words kind)) ≡ w ∷ tail_words values kind
+pub tail_read : (w : List ℕ) (values : List ℕ) (kind : LineKind) → IsPlainWord w → AreSmall values → HasSmall kind
+    → words (w ++ (value_words values ++ ending_words kind)) ≡ w ∷ tail_words values kind
 tail_read w [] kind p all small = ending_read w kind p small
 tail_read w (v ∷ values) kind p all small =
     let rest = value_words values ++ ending_words kind in
@@ -121,7 +130,8 @@ no_word v w small none = by (bytes_eq (decimal v) w) refl
   where
     by : (b : Bool) → bytes_eq (decimal v) w ≡ b → b ≡ false
     by false e = refl
-    by true e = let same : decimal v ≡ w = (bytes_eq-Decides (decimal v) w).0 e in let clash : ◌≡◌ {A = Option ℕ} (Some v) None = sym (number_of-decimal v small) ∙ ap number_of same ∙ none in cc
+    by true e = let same : decimal v ≡ w = (bytes_eq-Decides (decimal v) w).0 e in let clash : ◌≡◌ {A = Option ℕ}
+        (Some v) None = sym (number_of-decimal v small) ∙ ap number_of same ∙ none in cc
 
 no_number-new : number_of (codes "NEW") ≡ None
 unfolding number_of digits_from
@@ -147,9 +157,11 @@ end_is : (kind : LineKind) → HasSmall kind → closing (kind_words kind) ≡ S
 unfolding closing
 end_is Fresh small = refl
 end_is Bare small = refl
-end_is (Same line) small = ap (λ o. end_or_value (with o (λ i. Some (Same i))) (number_of (codes "AS")) (closing (decimal line ∷ []))) (number_of-decimal line small)
+end_is (Same line) small = ap (λ o. end_or_value (with o (λ i. Some (Same i))) (number_of (codes "AS"))
+    (closing (decimal line ∷ []))) (number_of-decimal line small)
 
-pub tail_is : (values : List ℕ) (kind : LineKind) → AreSmall values → HasSmall kind → closing (tail_words values kind) ≡ Some (record { values = values; kind = kind })
+pub tail_is : (values : List ℕ) (kind : LineKind) → AreSmall values → HasSmall kind
+    → closing (tail_words values kind) ≡ Some (record { values = values; kind = kind })
 unfolding closing
 tail_is [] kind all small = end_is kind small
 tail_is (v ∷ values) kind all small =
@@ -169,13 +181,21 @@ no_end_here b above = grind (arith, nat_tests)
 split_line : (l rest : List ℕ) → NoEnds l → slice_split is_line_end (l ++ 10 ∷ rest) ≡ l ∷ slice_split is_line_end rest
 split_line [] rest all = refl
 split_line (b ∷ l) rest all =
-    ap (λ t. cond t ([] ∷ slice_split is_line_end (l ++ 10 ∷ rest)) (onto_first b (slice_split is_line_end (l ++ 10 ∷ rest)))) (no_end_here b all.0) ∙ ap (onto_first b) (split_line l rest all.1)
+    ap (λ t. cond t ([] ∷ slice_split is_line_end (l ++ 10 ∷ rest))
+    (onto_first b (slice_split is_line_end (l ++ 10 ∷ rest)))) (no_end_here b all.0)
+    ∙ ap (onto_first b) (split_line l rest all.1)
 
 some_part : (text : List ℕ) → (y : List ℕ) × (ys : List (List ℕ)) × (slice_split is_line_end text ≡ y ∷ ys)
 some_part [] = ([], [], refl)
 some_part (b ∷ text) = elim (cases_Bool (is_line_end b)) [
   | inl ends ↦ ([], slice_split is_line_end text, ap (λ t. cond t ([] ∷ slice_split is_line_end text) (onto_first b (slice_split is_line_end text))) ends)
-  | inr goes ↦ let r = some_part text in (b ∷ r.0, r.1, ap (λ t. cond t ([] ∷ slice_split is_line_end text) (onto_first b (slice_split is_line_end text))) goes ∙ ap (onto_first b) r.2)
+  | inr goes ↦ let r = some_part text in (
+    b ∷ r.0,
+    r.1,
+    ap
+        (λ t. cond t ([] ∷ slice_split is_line_end text) (onto_first b (slice_split is_line_end text))) goes
+        ∙ ap (onto_first b) r.2,
+  )
 ]
 
 last_above : (l : List ℕ) (i : ℕ) → NoEnds l → nat_eq (slice_index l i) 13 ≡ false
@@ -193,4 +213,5 @@ low_all (b ∷ bytes) all = let parts = and_parts (nat_lt 31 b) (list_all (λ b.
 pub line_first : (l rest : List ℕ) → NoEnds l → lines (l ++ 10 ∷ rest) ≡ l ∷ lines rest
 line_first l rest all =
     let r = some_part rest in
-    ap lines_of_parts (split_line l rest all ∙ ap (λ ps. l ∷ ps) r.2) ∙ ap (λ k. k ∷ lines_of_parts (r.0 ∷ r.1)) (unstripped l all) ∙ ap (λ ps. l ∷ lines_of_parts ps) (sym r.2)
+    ap lines_of_parts (split_line l rest all ∙ ap (λ ps. l ∷ ps) r.2)
+    ∙ ap (λ k. k ∷ lines_of_parts (r.0 ∷ r.1)) (unstripped l all) ∙ ap (λ ps. l ∷ lines_of_parts ps) (sym r.2)

@@ -1,4 +1,5 @@
--- What is known of lines that are merged, and of exchanges whose lines can be written out and read again.
+-- What is known of lines that are merged, and of exchanges whose lines can be written out and read
+-- again.
 use Rattle.std.specs.Prelude.{◌≡◌, ℕ, ◌+◌, ◌<◌, ◌≤◌, nat_eq, true, List, [], ◌∷◌, ◌++◌}
 use Rattle.std.specs.Prelude.{map, filter, Option, Some, slice_get}
 use Rattle.std.specs.List.{AllByRecursion, flat_map}

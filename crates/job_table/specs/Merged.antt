@@ -1,8 +1,10 @@
 -- The lines of a signal file and the signals of a table, as one list.
 --
--- The lines of the signal file stand first, and behind them for each period in turn its signals. They are ordered by count, equal
--- counts as they stand, and numbered from 1. A line that takes the forlopp of an earlier one names it by its new number.
-use Rattle.std.specs.Prelude.{ℕ, ◌+◌, ◌*◌, ◌<◌, ◌^◌, nat_eq, nat_le, Bool, List, [], ◌∷◌, ◌++◌, length, map, position, sum_by, Option, if◌then◌else◌}
+-- The lines of the signal file stand first, and behind them for each period in turn its signals.
+-- They are ordered by count, equal counts as they stand, and numbered from 1. A line that takes the
+-- forlopp of an earlier one names it by its new number.
+use Rattle.std.specs.Prelude.{ℕ, ◌+◌, ◌*◌, ◌<◌, ◌^◌, nat_eq, nat_le, Bool, List, [], ◌∷◌, ◌++◌}
+use Rattle.std.specs.Prelude.{length, map, position, sum_by, Option, if◌then◌else◌}
 use Rattle.std.specs.List.{flat_map, range_with_len}
 use Rattle.std.specs.Option.{option_map, unwrap_or}
 use Rattle.signal_file.specs.declared.line.Line.{Line}
@@ -21,7 +23,13 @@ line_count lines periods = length lines + sum_by (λ (p : Period). p.times) peri
 
 -- one signal of a period, by its turn from 0; it has no number yet
 abbrev pub line_at : Period → ℕ → Line
-line_at p turn = record { number = 0; after = p.from + p.every * turn; entry = p.entry; values = p.values; kind = (if p.fresh then Fresh else Bare) }
+line_at p turn = record {
+  number = 0;
+  after = p.from + p.every * turn;
+  entry = p.entry;
+  values = p.values;
+  kind = (if p.fresh then Fresh else Bare);
+}
 
 -- the signals of a period
 abbrev pub lines_of : Period → List Line
@@ -54,7 +62,13 @@ renamed new Bare = Bare
 renamed new (Same old) = Same (unwrap_or (new old) 0)
 
 abbrev pub renumbered : (ℕ → Option ℕ) → ℕ → Line → Line
-renumbered new number l = record { number = number; after = l.after; entry = l.entry; values = l.values; kind = renamed new l.kind }
+renumbered new number l = record {
+  number = number;
+  after = l.after;
+  entry = l.entry;
+  values = l.values;
+  kind = renamed new l.kind;
+}
 
 -- these lines are numbered from this number on
 unfoldable pub numbered_from : (ℕ → Option ℕ) → ℕ → List Line → List Line

@@ -12,7 +12,8 @@ noted p old = get nat_eq p.numbers old
 
 -- a number is noted of an old one, unless one was, and what was noted stays
 abbrev pub HasNoted : Places → Places → ℕ → ℕ → Type 0
-HasNoted before after old number = (n : ℕ) → noted after n ≡ option_or (noted before n) (if nat_eq old n then Some number else None)
+HasNoted before after old number = (n : ℕ) → noted after n
+    ≡ option_or (noted before n) (if nat_eq old n then Some number else None)
 
 -- what is noted is where the lines stand, from 1
 abbrev pub ArePlaces : Places → List Line → Type 0

@@ -1,14 +1,18 @@
 -- What a line of a table means in an exchange, and its first fault.
 --
--- A line is looked at with what counts of the lines before it. Its rules are looked at in a fixed order, and the first that it breaks decides.
-use Rattle.std.specs.Prelude.{ℕ, ◌+◌, ◌-◌, ◌*◌, ◌^◌, ◌&&◌, nat_eq, nat_le, nat_lt, Bool, List, [], ◌∷◌, length, codes, Option, Some, None, Result, Ok, if◌then◌else◌}
+-- A line is looked at with what counts of the lines before it. Its rules are looked at in a fixed
+-- order, and the first that it breaks decides.
+use Rattle.std.specs.Prelude.{ℕ, ◌+◌, ◌-◌, ◌*◌, ◌^◌, ◌&&◌, nat_eq, nat_le, nat_lt, Bool, List, []}
+use Rattle.std.specs.Prelude.{◌∷◌, length, codes, Option, Some, None, Result, Ok, if◌then◌else◌}
 use Rattle.exchange_model.specs.declared.exchange.Exchange.{Exchange}
 use Rattle.text_lines.specs.Words.{is_skipped, words}
 use Rattle.signal_file.specs.declared.directory.Signal.{Signal}
 use Rattle.signal_file.specs.Rules.{and_then, entry_of, need, rule_broken, signal_of, unless}
 use Rattle.job_table.specs.declared.fault.TableFault.{TableFault}
 use Rattle.job_table.specs.declared.fault.TableRule.{TableRule}
-use Rattle.job_table.specs.declared.fault.TableRule.TheVariants.{TooLarge, BadLine, UnknownSignal, UnknownBlock, WrongData, BadRange, TooMany}
+use Rattle.job_table.specs.declared.fault.TableRule.TheVariants.{TooLarge, BadLine, UnknownSignal}
+use Rattle.job_table.specs.declared.fault.TableRule.TheVariants.{UnknownBlock, WrongData, BadRange}
+use Rattle.job_table.specs.declared.fault.TableRule.TheVariants.{TooMany}
 use Rattle.job_table.specs.declared.meaning.Before.{Before}
 use Rattle.job_table.specs.declared.period.Period.{Period}
 use Rattle.job_table.specs.declared.period.TheConstants.{MOST_LINES}
@@ -34,9 +38,11 @@ last_count every from times = from + every * (times - 1)
 
 -- there are signals, they are some jobs apart, and all their counts are below 2^32
 abbrev pub is_in_range : ℕ → ℕ → ℕ → Bool
-is_in_range every from times = nat_lt 0 every && (nat_lt 0 times && nat_lt (last_count every from times) (2 ^ 32))
+is_in_range every from times =
+    nat_lt 0 every && (nat_lt 0 times && nat_lt (last_count every from times) (2 ^ 32))
 
--- the rules on a line of a signal that its block receives, in their order: by how many values the line has, and its three numbers
+-- the rules on a line of a signal that its block receives, in their order: by how many values the
+-- line has, and its three numbers
 abbrev pub tests : Before → Signal → ℕ → ℕ → ℕ → ℕ → List (TableRule × Bool)
 tests b signal values every from times =
     (WrongData, nat_eq values signal.count)
@@ -50,18 +56,28 @@ tests_on b s signal = tests b signal (length s.values) s.every s.from s.times
 
 -- the period that is said, with the entry that it names
 abbrev pub period_of : Before → Saying → ℕ → Period
-period_of b s entry = record { number = b.lines + 1; every = s.every; from = s.from; times = s.times; entry = entry; values = s.values; fresh = s.fresh }
+period_of b s entry = record {
+  number = b.lines + 1;
+  every = s.every;
+  from = s.from;
+  times = s.times;
+  entry = entry;
+  values = s.values;
+  fresh = s.fresh;
+}
 
 -- what a line means, or its first fault
 unfoldable pub meaning : Exchange → Before → Saying → Result Period TableFault
 meaning x b s =
     need (breach UnknownSignal (b.lines + 1)) (signal_of x s.signal) (λ signal.
     need (breach UnknownBlock (b.lines + 1)) (entry_of x signal.number s.block) (λ entry.
-    unless (λ rule. breach rule (b.lines + 1)) (rule_broken (tests_on b s signal)) (period_of b s entry)))
+    unless (λ rule. breach rule (b.lines + 1)) (rule_broken (tests_on b s signal))
+    (period_of b s entry)))
 
 -- what a line adds, nothing where it is skipped; or its first fault
 abbrev pub told : Exchange → Before → Option Saying → Result (Option Period) TableFault
-told x b o = need (breach BadLine (b.lines + 1)) o (λ s. and_then (meaning x b s) (λ p. Ok (Some p)))
+told x b o = need (breach BadLine (b.lines + 1)) o
+    (λ s. and_then (meaning x b s) (λ p. Ok (Some p)))
 
 unfoldable pub added : Exchange → Before → List ℕ → Result (Option Period) TableFault
 added x b line = (if is_skipped line then Ok None else told x b (said_in (words line)))

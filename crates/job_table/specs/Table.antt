@@ -1,7 +1,7 @@
 -- The periods of a table, or its first fault.
 --
--- Each line is looked at behind all lines before it, those that are skipped too, so that it has their number. The first faulty line
--- decides.
+-- Each line is looked at behind all lines before it, those that are skipped too, so that it has
+-- their number. The first faulty line decides.
 use Rattle.std.specs.Prelude.{ℕ, ◌+◌, List, [], ◌∷◌, length, sum_by, Result, Ok, Err}
 use Rattle.std.specs.Str.Lines.{lines}
 use Rattle.std.specs.List.{cons_option}
@@ -16,7 +16,8 @@ use Rattle.job_table.specs.Rules.{added, behind}
 unfoldable pub periods_behind : Exchange → Before → List (List ℕ) → Result (List Period) TableFault
 periods_behind x b [] = Ok []
 periods_behind x b (line ∷ rest) =
-    and_then (added x b line) (λ first. and_then (periods_behind x (behind b first) rest) (λ ps. Ok (cons_option first ps)))
+    and_then (added x b line) (λ first. and_then (periods_behind x (behind b first) rest)
+    (λ ps. Ok (cons_option first ps)))
 
 -- what counts before the first line, beside so many lines of a signal file
 abbrev pub beside : ℕ → Before

@@ -17,7 +17,8 @@ ending_words (Same line) = codes " AS " ++ decimal line
 
 -- a line, without its end
 abbrev pub line_words : Exchange → Line → List ℕ
-line_words x l = codes "AFTER " ++ decimal l.after ++ codes " " ++ name_of_entry x l.entry ++ value_words l.values ++ ending_words l.kind
+line_words x l = codes "AFTER " ++ decimal l.after ++ codes " " ++ name_of_entry x l.entry
+    ++ value_words l.values ++ ending_words l.kind
 
 abbrev pub written_out : Exchange → List Line → List ℕ
 written_out x lines = flat_map (λ l. line_words x l ++ 10 ∷ []) lines

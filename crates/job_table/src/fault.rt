@@ -10,7 +10,8 @@ pub struct TableFault {
     pub rule: TableRule,
 }
 
-/// The rules of a table (docs/FORMATS.md, Table of periodic signals), in the order in which a line is looked at.
+/// The rules of a table (docs/FORMATS.md, Table of periodic signals), in the order in which a line
+/// is looked at.
 #[derive(Clone, Copy, Debug)]
 pub enum TableRule {
     /// The text has more than 16,777,216 bytes; told where it is read from a file.
@@ -23,7 +24,8 @@ pub enum TableRule {
     UnknownBlock,
     /// There are more or fewer values than the signal has.
     WrongData,
-    /// The signal never comes, or it comes again after no jobs, or its last count is not below 2^32.
+    /// The signal never comes, or it comes again after no jobs, or its last count is not below
+    /// 2^32.
     BadRange,
     /// With the signals of this line there are over 1,000,000 in the signal file and the table.
     TooMany,

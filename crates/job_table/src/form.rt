@@ -7,7 +7,8 @@ use plex_num::{Values, read_number};
 use signal_file::{LineKind, tail_of};
 use text_lines::{is_word, next_word};
 
-/// What a line of a table says, with the names of its signal and its block. The first eight values are kept, and all are counted.
+/// What a line of a table says, with the names of its signal and its block. The first eight values
+/// are kept, and all are counted.
 #[derive(Drop)]
 pub struct Said<'a> {
     pub every: u32,

@@ -16,8 +16,9 @@ ghost use Rattle.job_table.specs.Writing.{written_out};
 ghost use Rattle.job_table.specs.Rules.{added};
 ghost use Rattle.job_table.specs.Table.{beside, counted_of, periods_behind, table_periods};
 
-/// The lines of a signal file and the periods of a table that have no fault are merged to lines that fit the exchange, as those of one
-/// signal file do. They are numbered from 1, there are as many as signals in both files, and their counts are below 2^32.
+/// The lines of a signal file and the periods of a table that have no fault are merged to lines
+/// that fit the exchange, as those of one signal file do. They are numbered from 1, there are as
+/// many as signals in both files, and their counts are below 2^32.
 pub fn merged_lines_fit()
     ensures fit { (x : Exchange) (signals table : List ℕ)
         (lines : List Line) (periods : List Period)
@@ -33,8 +34,9 @@ pub fn merged_lines_fit()
         → AllByRecursion (λ (l : Line). l.after < 2 ^ 32) (merged lines periods) }
 {}
 
-/// What is written out is read again: lines that fit an exchange whose names are words, that are numbered from 1 and fewer than 2^32,
-/// and whose counts are below 2^32, are the signal lines of the text that they are written to. So are merged lines.
+/// What is written out is read again: lines that fit an exchange whose names are words, that are
+/// numbered from 1 and fewer than 2^32, and whose counts are below 2^32, are the signal lines of
+/// the text that they are written to. So are merged lines.
 pub fn written_lines_are_read()
     ensures lines { (x : Exchange) (lines : List Line) → IsExchange x → HasWords x
         → LinesFit x [] (map coming_of lines) → AreNumberedFrom 1 lines
@@ -60,8 +62,8 @@ pub fn merging_keeps_all_lines()
         → (i : ℕ) (l : Line) → slice_get lines i ≡ Some l → IsNamed lines periods l }
 {}
 
-/// The first faulty line of a table decides: where the lines before it are right, its first fault is
-/// that of the table, whatever stands behind it.
+/// The first faulty line of a table decides: where the lines before it are right, its first fault
+/// is that of the table, whatever stands behind it.
 pub fn first_faulty_line_decides()
     ensures { (x : Exchange) (signals : ℕ) (front rest : List (List ℕ)) (line : List ℕ)
         (list : List Period) (f : TableFault)

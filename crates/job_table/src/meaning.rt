@@ -11,8 +11,8 @@ use crate::period::{MOST_LINES, Period};
 use signal_file::{Known, Signal};
 use text_lines::is_skipped;
 
-/// What counts of the lines before a line: how many lines of the table there are, and how many signals in the signal file and in
-/// these lines.
+/// What counts of the lines before a line: how many lines of the table there are, and how many
+/// signals in the signal file and in these lines.
 #[derive(Clone, Copy)]
 pub struct Before {
     pub lines: u32,

@@ -1,8 +1,10 @@
 // The lines of a signal file and the signals of a table, as one list.
-ghost use Rattle.std.specs.Prelude.{◌≡◌, ◌+◌, ◌*◌, ◌<◌, ◌^◌, ◌++◌, IfOk, OnOk, length, if◌then◌else◌};
+ghost use Rattle.std.specs.Prelude.{◌≡◌, ◌+◌, ◌*◌, ◌<◌, ◌^◌, ◌++◌, IfOk, OnOk, length};
+ghost use Rattle.std.specs.Prelude.{if◌then◌else◌};
 ghost use Rattle.std.specs.List.{AllByRecursion};
 ghost use Rattle.signal_file.specs.declared.line.LineKind.TheVariants.{Fresh, Bare};
-ghost use Rattle.job_table.specs.Merged.{IsInRange, all_lines, by_count, line_at, line_count, lines_of, merged, numbered, renamed, renumbered};
+ghost use Rattle.job_table.specs.Merged.{IsInRange, all_lines, by_count, line_at, line_count};
+ghost use Rattle.job_table.specs.Merged.{lines_of, merged, numbered, renamed, renumbered};
 ghost use Rattle.job_table.specs.Places.{ArePlaces, noted};
 
 use crate::period::Period;
@@ -11,9 +13,10 @@ use plex_num::{Memory, Seq};
 use signal_file::{Line, LineKind};
 use std::alloc::Global;
 
-/// The lines of a signal file, and behind them the signals of each period in turn, ordered by count, equal counts as they stand. They
-/// are numbered from 1, and a line that takes the forlopp of another names it by its new number. The last count of each period is
-/// below 2^32, and so is the number of all lines.
+/// The lines of a signal file, and behind them the signals of each period in turn, ordered by
+/// count, equal counts as they stand. They are numbered from 1, and a line that takes the forlopp
+/// of another names it by its new number. The last count of each period is below 2^32, and so is
+/// the number of all lines.
 #[tactic(auto, using(crate::proofs::Turns::lines_merged))]
 pub fn merge(alloc: Global, lines: &Seq<Line>, periods: &Seq<Period>) -> Result<Seq<Line>, Memory>
     requires ranges { AllByRecursion IsInRange periods.now }

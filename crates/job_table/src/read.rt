@@ -13,8 +13,8 @@ use signal_file::{Known, Line};
 use std::alloc::Global;
 use text_lines::next_line;
 
-/// The periods of a table of at most 16 MiB, in order; or its first fault. It is to be merged with these lines of a signal file, whose
-/// number counts. It stops where memory is refused.
+/// The periods of a table of at most 16 MiB, in order; or its first fault. It is to be merged with
+/// these lines of a signal file, whose number counts. It stops where memory is refused.
 #[tactic(auto, using(crate::proofs::Tabled::table_read, crate::proofs::Fitted::table_fits))]
 pub fn read_table(
     alloc: Global,

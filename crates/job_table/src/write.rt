@@ -7,8 +7,8 @@ use plex_num::{Memory, Seq, add_number};
 use signal_file::{Line, LineKind};
 use std::alloc::Global;
 
-/// The text of the signal file that has these lines and no others, each with the names of its signal and its block. Their numbers are
-/// not written: a line has the number of its place.
+/// The text of the signal file that has these lines and no others, each with the names of its
+/// signal and its block. Their numbers are not written: a line has the number of its place.
 pub fn write_out(alloc: Global, exchange: &Exchange, lines: &Seq<Line>) -> Result<Seq<u8>, Memory>
     ensures { IfOk result (λ text. text ≡ written_out exchange.now lines.now) }
 {

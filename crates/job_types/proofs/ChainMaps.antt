@@ -1,5 +1,7 @@
 -- What a map of chains has at each number, after each change, and the records of all chains.
-use Rattle.std.proofs.Common.{◌≡◌, ◌≢◌, ℕ, Bool, true, false, cond, eqb, ltb, List, [], ◌∷◌, ◌++◌, flat_map, Option, None, Some, unwrap_or, refl, sym, ap, subst, ◌∙◌, arith}
+use Rattle.std.proofs.Common.{◌≡◌, ◌≢◌, ℕ, Bool, true, false, cond, eqb, ltb, List, [], ◌∷◌, ◌++◌}
+use Rattle.std.proofs.Common.{flat_map, Option, None, Some, unwrap_or, refl, sym, ap, subst, ◌∙◌}
+use Rattle.std.proofs.Common.{arith}
 use lib.Dec.{T}
 use Rattle.std.specs.declared.cmp.Ordering.TheVariants.{Less, Equal, Greater}
 use Rattle.std.specs.Ordering.{nat_cmp, is_lt}
@@ -18,7 +20,8 @@ pub chain_at-empty : (n : ℕ) → chain_at map.empty n ≡ []
 chain_at-empty n = ap (λ o. unwrap_or o []) (map.get-empty nat_cmp n)
 
 -- what the map has at a number after a number got a chain
-pub get-with_chain : (m : ChainMap) (n : ℕ) (h : Held) (chain : List Held) (q : ℕ) → map.get (with_chain m n (h ∷ chain)) q ≡ cond (eqb q n) (Some (h ∷ chain)) (map.get m q)
+pub get-with_chain : (m : ChainMap) (n : ℕ) (h : Held) (chain : List Held) (q : ℕ)
+    → map.get (with_chain m n (h ∷ chain)) q ≡ cond (eqb q n) (Some (h ∷ chain)) (map.get m q)
 get-with_chain m n h chain q = map.get-insert nat_cmp_total m n (h ∷ chain) q ∙ ap (λ b. cond b (Some (h ∷ chain)) (map.get m q)) (unsigned_tied q n)
 
 pub get-with_none : (m : ChainMap) (n q : ℕ) → map.get (with_chain m n []) q ≡ cond (eqb q n) None (map.get m q)
@@ -60,7 +63,8 @@ not_again n m lt = at (ltb n m) refl lt
         at_eq false lt = lt
 
 -- a first entry hides none behind it
-behind : (e : ℕ × List Held) (es fs : List (ℕ × List Held)) → T (below_all nat_cmp e.0 fs) → HasItsOwn (λ q. find nat_cmp q es) fs → HasItsOwn (λ q. find nat_cmp q (e ∷ es)) fs
+behind : (e : ℕ × List Held) (es fs : List (ℕ × List Held)) → T (below_all nat_cmp e.0 fs)
+    → HasItsOwn (λ q. find nat_cmp q es) fs → HasItsOwn (λ q. find nat_cmp q (e ∷ es)) fs
 unfolding HasItsOwn
 behind e es [] below own = tt
 behind e es (f ∷ fs) below own =
@@ -74,10 +78,13 @@ each_own (e ∷ es) up =
     let rest = split _ _ up in
     (ap (λ b. cond b (Some e.1) (find nat_cmp e.0 es)) (unsigned_tied e.0 e.0 ∙ eq-eqb e.0 e.0 refl), behind e es es rest.0 (each_own es rest.1))
 
-chained : (f : ℕ → Option (List Held)) (es : List (ℕ × List Held)) → HasItsOwn f es → flat_map (λ (chain : List Held). chain) (values_of es) ≡ flat_map (λ (n : ℕ). unwrap_or (f n) []) (keys_of es)
+chained : (f : ℕ → Option (List Held)) (es : List (ℕ × List Held)) → HasItsOwn f es
+    → flat_map (λ (chain : List Held). chain) (values_of es) ≡ flat_map (λ (n : ℕ). unwrap_or (f n) []) (keys_of es)
 unfolding HasItsOwn
 chained f [] own = refl
 chained f (e ∷ es) own = λ i. unwrap_or (sym own.0 i) [] ++ chained f es own.1 i
 
 pub by_number : (m : ChainMap) → all_records m ≡ flat_map (chain_at m) (map.keys m)
-by_number m = chained (map.get m) (map.entries m) (subst (λ (f : ℕ → Option (List Held)). HasItsOwn f (map.entries m)) (λ i q. sym (map.get-entries m q) i) (each_own (map.entries m) (map.entries_sorted m)))
+by_number m = chained (map.get m) (map.entries m)
+    (subst (λ (f : ℕ → Option (List Held)). HasItsOwn f (map.entries m)) (λ i q. sym (map.get-entries m q) i)
+    (each_own (map.entries m) (map.entries_sorted m)))

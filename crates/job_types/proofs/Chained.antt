@@ -1,5 +1,6 @@
 -- What a chain is without a record, by the place at which the record stands.
-use Rattle.std.proofs.Common.{◌≡◌, ℕ, suc, ◌+◌, ◌≤◌, Bool, true, false, cond, not, ltb, List, [], ◌∷◌, ◌++◌, length, drop, Some, None, refl, ap, ◌∙◌, arith}
+use Rattle.std.proofs.Common.{◌≡◌, ℕ, suc, ◌+◌, ◌≤◌, Bool, true, false, cond, not, ltb, List, []}
+use Rattle.std.proofs.Common.{◌∷◌, ◌++◌, length, drop, Some, None, refl, ap, ◌∙◌, arith}
 use Rattle.std.specs.Prelude.{◌&&◌, nat_eq, position, remove, if◌then◌else◌}
 use Rattle.std.specs.List.{prefix_len}
 use Rattle.std.proofs.lemmas.List.{take_all, drop_all, append-nil}
@@ -20,7 +21,8 @@ without_split : (hs : List Held) (file number : ℕ) → without hs file number 
 without_split [] file number = refl
 without_split (h ∷ hs) file number = by_test (is_held file number h) (without_split hs file number)
   where
-    by_test : (b : Bool) → without hs file number ≡ remove hs (before hs file number) → (if b then hs else h ∷ without hs file number) ≡ remove (h ∷ hs) (cond (not b) (1 + before hs file number) 0)
+    by_test : (b : Bool) → without hs file number ≡ remove hs (before hs file number)
+        → (if b then hs else h ∷ without hs file number) ≡ remove (h ∷ hs) (cond (not b) (1 + before hs file number) 0)
     by_test true ih = refl
     by_test false ih =
         let e : 1 + before hs file number ≡ suc (before hs file number) = omega arith in

@@ -1,5 +1,6 @@
 -- What a list of touches leaves in the words.
-use Rattle.std.proofs.Common.{◌≡◌, ◌<◌, get_or, get_or-set_same, get_or-set_other, sym, subst, ℕ, List, [], ◌∷◌, ◌++◌, length, set, refl, ◌∙◌, length-set}
+use Rattle.std.proofs.Common.{◌≡◌, ◌<◌, get_or, get_or-set_same, get_or-set_other, sym, subst, ℕ}
+use Rattle.std.proofs.Common.{List, [], ◌∷◌, ◌++◌, length, set, refl, ◌∙◌, length-set}
 use Rattle.job_types.specs.declared.touch.Touch.{Touch}
 use Rattle.job_types.specs.declared.touch.Touch.TheVariants.{Load, Store}
 use Rattle.job_types.specs.Touches.{stored, NoStore}

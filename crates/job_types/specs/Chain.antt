@@ -1,6 +1,7 @@
 -- One chain: the records that a forlopp holds, in the order in which it seized them.
 --
--- Of a record that stood twice the first one would leave. No chain of a valid state has such a record.
+-- Of a record that stood twice the first one would leave. No chain of a valid state has such a
+-- record.
 use Rattle.std.specs.Prelude.{ℕ, Bool, ◌&&◌, nat_eq, List, [], ◌∷◌, if◌then◌else◌}
 use Rattle.std.specs.List.{list_any}
 use Rattle.job_types.specs.declared.chain.Held.{Held}

@@ -1,8 +1,8 @@
 -- Which forlopp holds which records, and which numbers are dead.
 --
--- A map has a chain for each number that holds records and for no other, so that a forlopp without records looks like one
--- that never was. A restart kills all numbers that were drawn, and a release one: so the dead numbers are those below a bound,
--- and some others.
+-- A map has a chain for each number that holds records and for no other, so that a forlopp without
+-- records looks like one that never was. A restart kills all numbers that were drawn, and a release
+-- one: so the dead numbers are those below a bound, and some others.
 use Rattle.std.specs.Prelude.{ℕ, max, nat_lt, Bool, ◌&&◌, ◌||◌, List, [], ◌∷◌, flat_map, unwrap_or}
 use Rattle.std.specs.Ordering.{nat_cmp}
 use Rattle.std.specs.FinMap as map

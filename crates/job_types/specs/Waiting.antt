@@ -1,8 +1,9 @@
 -- The jobs that wait, in four lists by level; A goes before B, B before C and C before D.
 --
--- In each list the job that has waited longest stands first. The pick and what it leaves are told by which lists are
--- empty, case by case.
-use Rattle.std.specs.Prelude.{ℕ, ◌+◌, Bool, not, ◌==◌, List, [], ◌∷◌, ◌++◌, length, filter, count_by, Option, Some, None}
+-- In each list the job that has waited longest stands first. The pick and what it leaves are told
+-- by which lists are empty, case by case.
+use Rattle.std.specs.Prelude.{ℕ, ◌+◌, Bool, not, ◌==◌, List, [], ◌∷◌, ◌++◌, length, filter}
+use Rattle.std.specs.Prelude.{count_by, Option, Some, None}
 use Rattle.plex_num.specs.declared.level.Level.{Level}
 use Rattle.plex_num.specs.declared.level.Level.TheVariants.{A, B, C, D}
 use Rattle.job_types.specs.declared.job.Job.{Job}

@@ -1,4 +1,5 @@
-ghost use Rattle.std.specs.Prelude.{◌≡◌, ◌<◌, ◌≤◌, ◌++◌, ◌∷◌, [], List, length, remove, slice_get, Some};
+ghost use Rattle.std.specs.Prelude.{◌≡◌, ◌<◌, ◌≤◌, ◌++◌, ◌∷◌, [], List, length, remove, slice_get};
+ghost use Rattle.std.specs.Prelude.{Some};
 
 use arrayvec::ArrayVec;
 use plex_limits::MOST_HELD;
@@ -11,8 +12,8 @@ pub struct Held {
     pub number: u32,
 }
 
-/// The records that a forlopp holds, in the order in which it seized them: at most 64, which contracts see as a list.
-/// None of its calls takes memory.
+/// The records that a forlopp holds, in the order in which it seized them: at most 64, which
+/// contracts see as a list. None of its calls takes memory.
 #[derive(Drop)]
 pub struct Chain {
     held: ArrayVec<Held, MOST_HELD>,

@@ -3,7 +3,8 @@ ghost use Rattle.std.specs.Prelude.{◌≡◌};
 use crate::chain::Chain;
 use plex_num::{Level, Values};
 
-/// A job: the entry at which it begins, its level, the values of its signal, and the number of its forlopp, 0 for none.
+/// A job: the entry at which it begins, its level, the values of its signal, and the number of its
+/// forlopp, 0 for none.
 #[derive(Drop)]
 pub struct Job {
     pub entry: u32,

@@ -6,7 +6,8 @@ ghost use Rattle.job_types.specs.Touches.{stored, NoStore};
 ghost use Rattle.job_types.specs.declared.touch.Touch.{Touch};
 ghost use Rattle.job_types.specs.declared.touch.Touch.TheVariants.{Store};
 
-/// After a list of touches a word has the value that was stored to it last, and where none was, the value that it had before.
+/// After a list of touches a word has the value that was stored to it last, and where none was, the
+/// value that it had before.
 pub fn last_store_counts()
     ensures last { (a b : List Touch) (vs : List ℕ) (w x : ℕ) → w < length vs → NoStore w b →
         slice_index (stored vs (a ++ Store w x ∷ b)) w ≡ x }

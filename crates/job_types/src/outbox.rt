@@ -1,11 +1,13 @@
-ghost use Rattle.std.specs.Prelude.{◌≡◌, ◌<◌, ◌≤◌, ◌++◌, ◌∷◌, [], List, length, remove, slice_get, Some};
+ghost use Rattle.std.specs.Prelude.{◌≡◌, ◌<◌, ◌≤◌, ◌++◌, ◌∷◌, [], List, length, remove, slice_get};
+ghost use Rattle.std.specs.Prelude.{Some};
 
 use arrayvec::ArrayVec;
 use plex_limits::MOST_SENT;
 use plex_num::{Level, Values};
 use std::marker::Model;
 
-/// Where a signal goes: to an entry, by the buffer of a level and maybe in a new forlopp, or out of the exchange.
+/// Where a signal goes: to an entry, by the buffer of a level and maybe in a new forlopp, or out of
+/// the exchange.
 #[derive(Clone, Copy, PartialEq, Eq)]
 pub enum SendTo {
     Queue {
@@ -47,7 +49,8 @@ impl Default for Sent {
     }
 }
 
-/// The signals that a job sent, in order: at most 255, which contracts see as a list. None of its calls takes memory.
+/// The signals that a job sent, in order: at most 255, which contracts see as a list. None of its
+/// calls takes memory.
 #[derive(Drop)]
 pub struct Outbox {
     sent: ArrayVec<Sent, MOST_SENT>,

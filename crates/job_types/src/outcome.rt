@@ -11,7 +11,8 @@ pub enum Outcome {
     Faulted { fault: Fault, point: u32 },
 }
 
-/// What a job leaves: the signals that it sent, the chain of its forlopp as it ended, and how it ended.
+/// What a job leaves: the signals that it sent, the chain of its forlopp as it ended, and how it
+/// ended.
 #[derive(Drop)]
 pub struct JobDone {
     pub sends: Outbox,

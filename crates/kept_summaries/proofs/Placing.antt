@@ -1,5 +1,6 @@
 -- Summaries in an order, of which equal ones are kept once.
-use Rattle.std.proofs.Common.{◌≡◌, ⊎_elim, ℕ, zero, suc, ◌<◌, List, [], ◌∷◌, ◌++◌, length, Some, slice_get, refl, sym, ap, ◌∙◌, subst, arith, length-append}
+use Rattle.std.proofs.Common.{◌≡◌, ⊎_elim, ℕ, zero, suc, ◌<◌, List, [], ◌∷◌, ◌++◌, length, Some}
+use Rattle.std.proofs.Common.{slice_get, refl, sym, ap, ◌∙◌, subst, arith, length-append}
 use Rattle.std.specs.Option.{option_to_list}
 use Rattle.std.proofs.lemmas.Grind.{flat_map-append}
 use Rattle.std.proofs.lemmas.Option.{none-some, same_Some, slice_get_within}
@@ -21,7 +22,8 @@ long kept (s ∷ order) are =
     let rest = long kept order (λ i t there. are (suc i) t there) in
     ap (λ o. length (option_to_list o ++ in_order kept order)) here.1 ∙ ap suc rest
 
-found : (kept : List Summary) (order : List Standing) (i : ℕ) (s : Standing) → AreKept kept order → slice_get order i ≡ Some s → slice_get (in_order kept order) i ≡ slice_get kept s.place
+found : (kept : List Summary) (order : List Standing) (i : ℕ) (s : Standing) → AreKept kept order
+    → slice_get order i ≡ Some s → slice_get (in_order kept order) i ≡ slice_get kept s.place
 found kept [] i s are there = absurd (none-some s there)
 found kept (t ∷ order) zero s are there =
     let here = some_at kept t.place (are 0 t refl) in
@@ -43,11 +45,13 @@ module _ (kept : List Summary) (order : List Standing) (shown : List Summary) (p
   pub within_kept : (i : ℕ) (s : Standing) → slice_get order i ≡ Some s → s.place < length kept
   within_kept = are_kept
 
-  pub shown_at : (i : ℕ) (s : Standing) (summary : Summary) → slice_get order i ≡ Some s → slice_get kept s.place ≡ Some summary → slice_get shown i ≡ Some summary
+  pub shown_at : (i : ℕ) (s : Standing) (summary : Summary) → slice_get order i ≡ Some s
+      → slice_get kept s.place ≡ Some summary → slice_get shown i ≡ Some summary
   shown_at i s summary there is = ap (λ l. slice_get l i) (sym shows) ∙ found kept order i s are_kept there ∙ is
 
   pub first_within : (i : ℕ) (s : Standing) → slice_get order i ≡ Some s → s.first < length shown
-  first_within i s there = (let p = placed i s there in let lt = slice_get_within order s.first p.other p.there in let same = shown_long in omega (arith, lt, same))
+  first_within i s there = (let p = placed i s there in let lt = slice_get_within order s.first p.other p.there in let
+      same = shown_long in omega (arith, lt, same))
 
   pub first_same : (i : ℕ) (s : Standing) → slice_get order i ≡ Some s → slice_get shown s.first ≡ slice_get shown i
   first_same i s there =
@@ -65,7 +69,8 @@ same_kept kept new order same placed = subst (λ (k : List Summary). ArePlaced k
 
 -- one more that is kept
 
-pub kept_more : (kept grown : List Summary) (order : List Standing) (summary : Summary) → grown ≡ kept ++ summary ∷ [] → ArePlaced kept order → ArePlaced grown order
+pub kept_more : (kept grown : List Summary) (order : List Standing) (summary : Summary) → grown ≡ kept ++ summary ∷ []
+    → ArePlaced kept order → ArePlaced grown order
 kept_more kept grown order summary is placed i s there =
     let p = placed i s there in
     let l = ap length is ∙ length-append kept (summary ∷ []) in
@@ -80,7 +85,9 @@ shown_more kept more (s ∷ order) are =
 
 -- one more in the order
 
-shown_push : (kept : List Summary) (order new : List Standing) (s : Standing) (summary : Summary) → new ≡ order ++ s ∷ [] → slice_get kept s.place ≡ Some summary → in_order kept new ≡ in_order kept order ++ summary ∷ []
+shown_push : (kept : List Summary) (order new : List Standing) (s : Standing) (summary : Summary)
+    → new ≡ order ++ s ∷ [] → slice_get kept s.place ≡ Some summary
+    → in_order kept new ≡ in_order kept order ++ summary ∷ []
 shown_push kept order new s summary made is =
     ap (in_order kept) made ∙ flat_map-append (kept_for kept) order (s ∷ []) ∙ ap (λ o. in_order kept order ++ (option_to_list o ++ [])) is
 
@@ -92,15 +99,19 @@ stays kept order s t p = record {
   same = p.same;
 }
 
-placed_push : (kept : List Summary) (order : List Standing) (s : Standing) → ArePlaced kept order → IsPlaced kept (order ++ s ∷ []) s → ArePlaced kept (order ++ s ∷ [])
+placed_push : (kept : List Summary) (order : List Standing) (s : Standing) → ArePlaced kept order
+    → IsPlaced kept (order ++ s ∷ []) s → ArePlaced kept (order ++ s ∷ [])
 placed_push kept order s placed own i t there =
     ⊎_elim (λ old. stays kept order s t (placed i t old)) (λ now. subst (IsPlaced kept (order ++ s ∷ [])) now.1 own) (get_push order s t i there)
 
-pub like_placed : (kept : List Summary) (order new : List Standing) (summary : Summary) (s : Standing) → ArePlaced kept order → IsLike kept order summary s → new ≡ order ++ s ∷ [] → ArePlaced kept new
+pub like_placed : (kept : List Summary) (order new : List Standing) (summary : Summary) (s : Standing)
+    → ArePlaced kept order → IsLike kept order summary s → new ≡ order ++ s ∷ [] → ArePlaced kept new
 like_placed kept order new summary s placed like made =
     subst (ArePlaced kept) (sym made) (placed_push kept order s placed (stays kept order s s (placed like.at s like.stands)))
 
-module _ (kept grown : List Summary) (order new : List Standing) (summary : Summary) (s : Standing) (placed : ArePlaced kept order) (more : grown ≡ kept ++ summary ∷ []) (place : s.place ≡ length kept) (first : s.first ≡ length order) (made : new ≡ order ++ s ∷ []) where
+module _ (kept grown : List Summary) (order new : List Standing) (summary : Summary) (s : Standing)
+    (placed : ArePlaced kept order) (more : grown ≡ kept ++ summary ∷ []) (place : s.place ≡ length kept)
+    (first : s.first ≡ length order) (made : new ≡ order ++ s ∷ []) where
   its_own : slice_get grown s.place ≡ Some summary
   its_own = ap (λ (l : List Summary). slice_get l s.place) more ∙ ap (slice_get (kept ++ summary ∷ [])) place ∙ slice_get-append_seam kept summary []
 
@@ -118,4 +129,5 @@ module _ (kept grown : List Summary) (order new : List Standing) (summary : Summ
   pub new_shown : (shown : List Summary) → in_order kept order ≡ shown → in_order grown new ≡ shown ++ summary ∷ []
   new_shown shown shows =
       shown_push grown order new s summary made its_own
-      ∙ ap (λ l. l ++ summary ∷ []) (ap (λ (k : List Summary). in_order k order) more ∙ shown_more kept (summary ∷ []) order (λ i t there. (placed i t there).within) ∙ shows)
+      ∙ ap (λ l. l ++ summary ∷ []) (ap (λ (k : List Summary). in_order k order) more
+      ∙ shown_more kept (summary ∷ []) order (λ i t there. (placed i t there).within) ∙ shows)

@@ -23,7 +23,8 @@ abbrev pub ArePlaced : List Summary → List Standing → Type 0
 ArePlaced kept order = (i : ℕ) (s : Standing) → slice_get order i ≡ Some s → IsPlaced kept order s
 
 -- it stands in the order, and this is what is kept for it
-pub record IsLike (kept : List Summary) (order : List Standing) (summary : Summary) (s : Standing) : Type 0 where
+pub record IsLike (kept : List Summary) (order : List Standing) (summary : Summary)
+    (s : Standing) : Type 0 where
   pub at : ℕ
   pub stands : slice_get order at ≡ Some s
   pub is : slice_get kept s.place ≡ Some summary

@@ -17,13 +17,13 @@ pub struct Standing {
     pub first: usize,
 }
 
-/// Summaries in an order, which contracts see as the list of them. Equal ones are kept once, so many entries that do the same take
-/// no more memory than one.
+/// Summaries in an order, which contracts see as the list of them. Equal ones are kept once, so
+/// many entries that do the same take no more memory than one.
 pub struct Summaries {
     kept: Seq<Summary>,
     order: Seq<Standing>,
-    /// For each mark where in the order the last summary stands that was kept with it. It may be wrong: what it leads to is looked
-    /// at, and a wrong hint costs time and room alone.
+    /// For each mark where in the order the last summary stands that was kept with it. It may be
+    /// wrong: what it leads to is looked at, and a wrong hint costs time and room alone.
     hints: HashMap<u64, usize>,
 }
 
@@ -101,7 +101,8 @@ impl Summaries {
         kept_at(&self.kept, standing.place)
     }
 
-    /// A place at which the same summary stands: the first one, where summaries with one mark are equal.
+    /// A place at which the same summary stands: the first one, where summaries with one mark are
+    /// equal.
     pub fn first_like(&self, i: usize) -> usize
         requires { i < length self.now }
         ensures within { result < length self.now }

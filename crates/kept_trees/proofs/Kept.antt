@@ -1,5 +1,7 @@
--- What words that a text may have spell is kept, one line for each production or alternative of the grammar.
-use Rattle.std.proofs.Common.{◌≡◌, ℕ, zero, suc, Bool, List, [], ◌∷◌, ◌++◌, Option, Some, None, IfSome, subst}
+-- What words that a text may have spell is kept, one line for each production or alternative of the
+-- grammar.
+use Rattle.std.proofs.Common.{◌≡◌, ℕ, zero, suc, Bool, List, [], ◌∷◌, ◌++◌, Option, Some, None}
+use Rattle.std.proofs.Common.{IfSome, subst}
 use Rattle.plex_lexer.specs.declared.token.Token.{Token}
 use Rattle.plex_lexer.specs.declared.token.TokenKind.{TokenKind}
 use Rattle.plex_lexer.specs.declared.token.TokenKind.TheVariants as kinds
@@ -108,29 +110,38 @@ kept-number s x = record { keeps = λ u w h. word_at u h.0 (kinds.Number x.value
 
 -- expressions
 
-kept-factor-at : {K : Expr → Type 0} {I : Expr → Lang} (s : Bool) → ((e : Expr) → Kept (K e) (I e)) → (x : open_expr.FactorKind-F Added FactorKind Multiplied Expr Factor Term) → Kept (keeps.KeepsFactorAt K x) (grammar.factor_at s I x)
+kept-factor-at : {K : Expr → Type 0} {I : Expr → Lang} (s : Bool) → ((e : Expr) → Kept (K e) (I e))
+    → (x : open_expr.FactorKind-F Added FactorKind Multiplied Expr Factor Term)
+    → Kept (keeps.KeepsFactorAt K x) (grammar.factor_at s I x)
 kept-factor-at s inner (open_expr.Number n) = kept-number s n
 kept-factor-at s inner (open_expr.Name n) = kept-name s n
 kept-factor-at s inner (open_expr.Field n p) = kept-then (kept-name s n) (kept-after (kept-ended (kept-name s p)))
 kept-factor-at s inner (open_expr.Bracket e) = kept-after (kept-ended (inner e))
 kept-factor-at s inner (open_expr.Reference m) = kept-after (kept-name s m)
 
-kept-factor-with : {K : Expr → Type 0} {I : Expr → Lang} (s : Bool) → ((e : Expr) → Kept (K e) (I e)) → (f : Factor) → Kept (keeps.KeepsFactorWith K f) (grammar.factor_with s I f)
+kept-factor-with : {K : Expr → Type 0} {I : Expr → Lang} (s : Bool) → ((e : Expr) → Kept (K e) (I e)) → (f : Factor)
+    → Kept (keeps.KeepsFactorWith K f) (grammar.factor_with s I f)
 kept-factor-with s inner f = kept-on s f.line (kept-factor-at s inner (out-FactorKind f.kind))
 
-kept-multiplied-at : {K : Factor → Type 0} {F : Factor → Lang} → ((f : Factor) → Kept (K f) (F f)) → (x : open_expr.Multiplied-F Added FactorKind Multiplied Expr Factor Term) → Kept (keeps.KeepsMultipliedAt K x) (grammar.multiplied_at F x)
+kept-multiplied-at : {K : Factor → Type 0} {F : Factor → Lang} → ((f : Factor) → Kept (K f) (F f))
+    → (x : open_expr.Multiplied-F Added FactorKind Multiplied Expr Factor Term)
+    → Kept (keeps.KeepsMultipliedAt K x) (grammar.multiplied_at F x)
 kept-multiplied-at factor (open_expr.Times f) = kept-after (factor f)
 kept-multiplied-at factor (open_expr.Over f) = kept-after (factor f)
 kept-multiplied-at factor (open_expr.Mod f) = kept-after (factor f)
 
-kept-term-with : {K : Factor → Type 0} {F : Factor → Lang} (s : Bool) → ((f : Factor) → Kept (K f) (F f)) → (t : Term) → Kept (keeps.KeepsTermWith K t) (grammar.term_with s F t)
+kept-term-with : {K : Factor → Type 0} {F : Factor → Lang} (s : Bool) → ((f : Factor) → Kept (K f) (F f)) → (t : Term)
+    → Kept (keeps.KeepsTermWith K t) (grammar.term_with s F t)
 kept-term-with s factor t = kept-on s t.line (kept-then (factor t.first) (kept-each (λ m. kept-multiplied-at factor (out-Multiplied m)) t.rest))
 
-kept-added-at : {K : Term → Type 0} {T : Term → Lang} → ((t : Term) → Kept (K t) (T t)) → (x : open_expr.Added-F Added FactorKind Multiplied Expr Factor Term) → Kept (keeps.KeepsAddedAt K x) (grammar.added_at T x)
+kept-added-at : {K : Term → Type 0} {T : Term → Lang} → ((t : Term) → Kept (K t) (T t))
+    → (x : open_expr.Added-F Added FactorKind Multiplied Expr Factor Term)
+    → Kept (keeps.KeepsAddedAt K x) (grammar.added_at T x)
 kept-added-at term (open_expr.Plus t) = kept-after (term t)
 kept-added-at term (open_expr.Minus t) = kept-after (term t)
 
-kept-expr-with : {K : Term → Type 0} {T : Term → Lang} (s : Bool) → ((t : Term) → Kept (K t) (T t)) → (e : Expr) → Kept (keeps.KeepsExprWith K e) (grammar.expr_with s T e)
+kept-expr-with : {K : Term → Type 0} {T : Term → Lang} (s : Bool) → ((t : Term) → Kept (K t) (T t)) → (e : Expr)
+    → Kept (keeps.KeepsExprWith K e) (grammar.expr_with s T e)
 kept-expr-with s term e = kept-on s e.line (kept-then (term e.first) (kept-each (λ a. kept-added-at term (out-Added a)) e.rest))
 
 kept-inside : (s : Bool) (b : ℕ) (e : Expr) → Kept (keeps.KeepsInside b e) (grammar.inside s b e)
@@ -169,34 +180,53 @@ kept-reference s x = kept-on s x.line (kept-reference-at s x.kind)
 
 -- statements
 
-kept-when-at : {K : List Stmt → Type 0} {B : List Stmt → Lang} (s : Bool) → ((xs : List Stmt) → Kept (K xs) (B xs)) → (x : open_stmt.When-F StmtKind Stmt When) → Kept (keeps.KeepsWhenAt K x) (grammar.when_at s B x)
+kept-when-at : {K : List Stmt → Type 0} {B : List Stmt → Lang} (s : Bool) → ((xs : List Stmt) → Kept (K xs) (B xs))
+    → (x : open_stmt.When-F StmtKind Stmt When) → Kept (keeps.KeepsWhenAt K x) (grammar.when_at s B x)
 kept-when-at s body x = kept-on s x.line (kept-after (kept-then (kept-number s x.number) (kept-after (body x.body))))
 
-kept-when : {K : List Stmt → Type 0} {B : List Stmt → Lang} (s : Bool) → ((xs : List Stmt) → Kept (K xs) (B xs)) → (x : When) → Kept (keeps.KeepsWhen K x) (grammar.when_with s B x)
+kept-when : {K : List Stmt → Type 0} {B : List Stmt → Lang} (s : Bool) → ((xs : List Stmt) → Kept (K xs) (B xs))
+    → (x : When) → Kept (keeps.KeepsWhen K x) (grammar.when_with s B x)
 kept-when s body x = kept-when-at s body (out-When x)
 
 -- a label, and the words after it
 kept-label : {L M : Lang} (s : Bool) (l : Named) → Kept (IsNamed l) (L · (named s l · M))
 kept-label s l = kept-after (kept-ended (kept-name s l))
 
-kept-kind-at : {K : List Stmt → Type 0} {B : List Stmt → Lang} (s : Bool) (b : ℕ) → ((xs : List Stmt) → Kept (K xs) (B xs)) → (x : open_stmt.StmtKind-F StmtKind Stmt When) → Kept (keeps.KeepsKindAt b K x) (grammar.kind_at s b B x)
+kept-kind-at : {K : List Stmt → Type 0} {B : List Stmt → Lang} (s : Bool) (b : ℕ)
+    → ((xs : List Stmt) → Kept (K xs) (B xs)) → (x : open_stmt.StmtKind-F StmtKind Stmt When)
+    → Kept (keeps.KeepsKindAt b K x) (grammar.kind_at s b B x)
 kept-kind-at s b body (open_stmt.Assign n e) = kept-then (kept-name s n) (kept-after (kept-ended (kept-expr s b e)))
-kept-kind-at s b body (open_stmt.SetField n p e) = kept-then (kept-name s n) (kept-after (kept-then (kept-name s p) (kept-after (kept-after (kept-ended (kept-expr s b e))))))
+kept-kind-at s b body (open_stmt.SetField n p e) = kept-then (kept-name s n)
+    (kept-after (kept-then (kept-name s p) (kept-after (kept-after (kept-ended (kept-expr s b e))))))
 kept-kind-at s b body (open_stmt.Goto l) = kept-label s l
 kept-kind-at s b body (open_stmt.IfGoto c l) = kept-after (kept-then (kept-cond s b c) (kept-label s l))
-kept-kind-at s b body (open_stmt.If c first other) = kept-after (kept-then (kept-cond s b c) (kept-after (kept-then (body first) (kept-ended (kept-maybe (λ xs. kept-after (body xs)) other)))))
-kept-kind-at s b body (open_stmt.Case e whens other) = kept-after (kept-then (kept-expr s b e) (kept-after (kept-then (kept-each (kept-when s body) whens) (kept-after (kept-after (kept-ended (body other)))))))
-kept-kind-at s b body (open_stmt.On n from upto stmts) = kept-after (kept-then (kept-name s n) (kept-after (kept-then (kept-expr s b from) (kept-after (kept-then (kept-expr s b upto) (kept-after (kept-ended (body stmts))))))))
-kept-kind-at s b body (open_stmt.ForFirst n file field r e l) = kept-after (kept-after (kept-then (kept-name s n) (kept-after (kept-then (kept-name s file) (kept-after (kept-then (kept-name s field) (kept-after (kept-then (kept-expr s b e) (kept-label s l)))))))))
-kept-kind-at s b body (open_stmt.Send n r es fresh) = kept-after (kept-then (kept-name s n) (kept-then (kept-maybe (kept-reference s) r) (kept-ended (kept-maybe (kept-exprs s b) es))))
+kept-kind-at s b body (open_stmt.If c first other) = kept-after
+    (kept-then (kept-cond s b c) (kept-after (kept-then (body first)
+    (kept-ended (kept-maybe (λ xs. kept-after (body xs)) other)))))
+kept-kind-at s b body (open_stmt.Case e whens other) = kept-after
+    (kept-then (kept-expr s b e) (kept-after (kept-then (kept-each (kept-when s body) whens)
+    (kept-after (kept-after (kept-ended (body other)))))))
+kept-kind-at s b body (open_stmt.On n from upto stmts) = kept-after
+    (kept-then (kept-name s n) (kept-after (kept-then (kept-expr s b from)
+    (kept-after (kept-then (kept-expr s b upto) (kept-after (kept-ended (body stmts))))))))
+kept-kind-at s b body (open_stmt.ForFirst n file field r e l) = kept-after
+    (kept-after (kept-then (kept-name s n) (kept-after
+    (kept-then (kept-name s file) (kept-after (kept-then (kept-name s field)
+    (kept-after (kept-then (kept-expr s b e) (kept-label s l)))))))))
+kept-kind-at s b body (open_stmt.Send n r es fresh) = kept-after
+    (kept-then (kept-name s n) (kept-then (kept-maybe (kept-reference s) r)
+    (kept-ended (kept-maybe (kept-exprs s b) es))))
 kept-kind-at s b body (open_stmt.Retrieve n ns) = kept-after (kept-then (kept-name s n) (kept-ended (kept-maybe (kept-names s) ns)))
 kept-kind-at s b body (open_stmt.Return n es) = kept-after (kept-then (kept-name s n) (kept-ended (kept-maybe (kept-exprs s b) es)))
 kept-kind-at s b body (open_stmt.Transfer n r) = kept-after (kept-then (kept-name s n) (kept-ended (kept-maybe (kept-reference s) r)))
-kept-kind-at s b body (open_stmt.Seize n file l) = kept-after (kept-then (kept-name s n) (kept-after (kept-then (kept-name s file) (kept-after (kept-label s l)))))
+kept-kind-at s b body (open_stmt.Seize n file l) = kept-after
+    (kept-then (kept-name s n) (kept-after (kept-then (kept-name s file) (kept-after (kept-label s l)))))
 kept-kind-at s b body (open_stmt.Free n file) = kept-after (kept-then (kept-name s n) (kept-after (kept-ended (kept-name s file))))
 kept-kind-at s b body open_stmt.Exit = kept-any
 
-kept-stmt-with : {K : List Stmt → Type 0} {B : List Stmt → Lang} (s : Bool) (b : ℕ) → ((xs : List Stmt) → Kept (K xs) (B xs)) → (x : Stmt) → Kept (keeps.KeepsStmtWith b K x) (grammar.stmt_with s b B x)
+kept-stmt-with : {K : List Stmt → Type 0} {B : List Stmt → Lang} (s : Bool) (b : ℕ)
+    → ((xs : List Stmt) → Kept (K xs) (B xs)) → (x : Stmt)
+    → Kept (keeps.KeepsStmtWith b K x) (grammar.stmt_with s b B x)
 kept-stmt-with s b body x = kept-on s x.line (kept-kind-at s b body (out-StmtKind x.kind))
 
 kept-body : (s : Bool) (b n : ℕ) (xs : List Stmt) → Kept (keeps.KeepsBody b n xs) (grammar.body s b n xs)
@@ -225,12 +255,16 @@ kept-init : (s : Bool) (i : Numbered) → Kept (KeepsNumber i) (grammar.init s i
 kept-init s i = kept-after (kept-number s i)
 
 kept-field : (s : Bool) (x : Field) → Kept (keeps.KeepsField x) (grammar.field s x)
-kept-field s x = kept-on s x.line (kept-after (kept-then (kept-name s x.name) (kept-after (kept-then (kept-number s x.width) (kept-ended (kept-maybe (kept-init s) x.init))))))
+kept-field s x = kept-on s x.line (kept-after (kept-then (kept-name s x.name)
+    (kept-after (kept-then (kept-number s x.width) (kept-ended (kept-maybe (kept-init s) x.init))))))
 
 kept-decl-at : (s : Bool) (k : DeclKind) → Kept (keeps.KeepsDeclAt k) (grammar.decl_at s k)
-kept-decl-at s (decls.Variable n w i clear) = kept-after (kept-then (kept-name s n) (kept-after (kept-then (kept-number s w) (kept-ended (kept-maybe (kept-init s) i)))))
+kept-decl-at s (decls.Variable n w i clear) = kept-after
+    (kept-then (kept-name s n) (kept-after (kept-then (kept-number s w) (kept-ended (kept-maybe (kept-init s) i)))))
 kept-decl-at s (decls.Temporary n) = kept-label s n
-kept-decl-at s (decls.File forlopp n size fields) = kept-after (kept-after (kept-then (kept-name s n) (kept-after (kept-then (kept-number s size) (kept-after (kept-each (kept-field s) fields))))))
+kept-decl-at s (decls.File forlopp n size fields) = kept-after
+    (kept-after (kept-then (kept-name s n) (kept-after
+    (kept-then (kept-number s size) (kept-after (kept-each (kept-field s) fields))))))
 
 kept-decl : (s : Bool) (x : Decl) → Kept (keeps.KeepsDecl x) (grammar.decl s x)
 kept-decl s x = kept-on s x.line (kept-decl-at s x.kind)
@@ -247,7 +281,8 @@ kept-block s b n x =
 kept-shape-at : (s : Bool) (k : ShapeKind) → Kept (keeps.KeepsShapeAt k) (grammar.shape_at s k)
 kept-shape-at s (shapes.Buffered l d) = kept-after (kept-after (kept-after (kept-after (kept-number s d))))
 kept-shape-at s (shapes.Direct d) = kept-after (kept-after (kept-after (kept-number s d)))
-kept-shape-at s (shapes.Combined d a e) = kept-after (kept-after (kept-then (kept-number s d) (kept-after (kept-then (kept-name s a) (kept-after (kept-number s e))))))
+kept-shape-at s (shapes.Combined d a e) = kept-after
+    (kept-after (kept-then (kept-number s d) (kept-after (kept-then (kept-name s a) (kept-after (kept-number s e))))))
 kept-shape-at s (shapes.Outside d) = kept-after (kept-after (kept-number s d))
 
 kept-shape : (s : Bool) (x : Shape) → Kept (keeps.KeepsShape x) (grammar.shape s x)

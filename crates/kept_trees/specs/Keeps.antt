@@ -1,7 +1,8 @@
--- What a tree keeps that is read: its names are names, its numbers have 32 bits, and it nests no deeper than two limits.
--- One line for each production or alternative of the grammar. As there, `b` is how deep brackets may nest, and `n` how deep
--- statements that hold statements may.
-use Rattle.std.specs.Prelude.{◌≡◌, ℕ, zero, suc, ◌^◌, ◌<◌, ◌≤◌, true, List, [], ◌∷◌, length, get_or, None, IfSome}
+-- What a tree keeps that is read: its names are names, its numbers have 32 bits, and it nests no
+-- deeper than two limits. One line for each production or alternative of the grammar. As there, `b`
+-- is how deep brackets may nest, and `n` how deep statements that hold statements may.
+use Rattle.std.specs.Prelude.{◌≡◌, ℕ, zero, suc, ◌^◌, ◌<◌, ◌≤◌, true, List, [], ◌∷◌, length, get_or}
+use Rattle.std.specs.Prelude.{None, IfSome}
 use Rattle.std.specs.Char.{is_ascii_uppercase}
 use Rattle.std.specs.List.{list_all}
 use Rattle.plex_limits.specs.declared.limits.TheConstants.{MOST_BRACKETS, MOST_NESTED}
@@ -66,7 +67,8 @@ Every K (x ∷ xs) = K x × Every K xs
 
 -- expressions: `I` is kept by what a bracket holds, `F` by a factor, `T` by a term
 
-abbrev pub KeepsFactorAt : (Expr → Type 0) → open_expr.FactorKind-F Added FactorKind Multiplied Expr Factor Term → Type 0
+abbrev pub KeepsFactorAt : (Expr → Type 0) → open_expr.FactorKind-F Added FactorKind Multiplied Expr
+    Factor Term → Type 0
 KeepsFactorAt I (open_expr.Number n) = KeepsNumber n
 KeepsFactorAt I (open_expr.Name n) = IsNamed n
 KeepsFactorAt I (open_expr.Field n p) = IsNamed n × IsNamed p
@@ -76,7 +78,8 @@ KeepsFactorAt I (open_expr.Reference m) = IsNamed m
 abbrev pub KeepsFactorWith : (Expr → Type 0) → Factor → Type 0
 KeepsFactorWith I f = KeepsFactorAt I (out-FactorKind f.kind)
 
-abbrev pub KeepsMultipliedAt : (Factor → Type 0) → open_expr.Multiplied-F Added FactorKind Multiplied Expr Factor Term → Type 0
+abbrev pub KeepsMultipliedAt : (Factor → Type 0)
+    → open_expr.Multiplied-F Added FactorKind Multiplied Expr Factor Term → Type 0
 KeepsMultipliedAt F (open_expr.Times f) = F f
 KeepsMultipliedAt F (open_expr.Over f) = F f
 KeepsMultipliedAt F (open_expr.Mod f) = F f
@@ -84,7 +87,8 @@ KeepsMultipliedAt F (open_expr.Mod f) = F f
 abbrev pub KeepsTermWith : (Factor → Type 0) → Term → Type 0
 KeepsTermWith F t = F t.first × Every (λ m. KeepsMultipliedAt F (out-Multiplied m)) t.rest
 
-abbrev pub KeepsAddedAt : (Term → Type 0) → open_expr.Added-F Added FactorKind Multiplied Expr Factor Term → Type 0
+abbrev pub KeepsAddedAt : (Term → Type 0) → open_expr.Added-F Added FactorKind Multiplied Expr
+    Factor Term → Type 0
 KeepsAddedAt T (open_expr.Plus t) = T t
 KeepsAddedAt T (open_expr.Minus t) = T t
 
@@ -139,10 +143,14 @@ KeepsKindAt b B (open_stmt.SetField n p e) = IsNamed n × (IsNamed p × KeepsExp
 KeepsKindAt b B (open_stmt.Goto l) = IsNamed l
 KeepsKindAt b B (open_stmt.IfGoto c l) = KeepsCond b c × IsNamed l
 KeepsKindAt b B (open_stmt.If c first other) = KeepsCond b c × (B first × IfSome other B)
-KeepsKindAt b B (open_stmt.Case e whens other) = KeepsExpr b e × (Every (KeepsWhen B) whens × B other)
-KeepsKindAt b B (open_stmt.On n from upto stmts) = IsNamed n × (KeepsExpr b from × (KeepsExpr b upto × B stmts))
-KeepsKindAt b B (open_stmt.ForFirst n file field r e l) = IsNamed n × (IsNamed file × (IsNamed field × (KeepsExpr b e × IsNamed l)))
-KeepsKindAt b B (open_stmt.Send n r es fresh) = IsNamed n × (IfSome r KeepsReference × IfSome es (KeepsExprs b))
+KeepsKindAt b B (open_stmt.Case e whens other) =
+    KeepsExpr b e × (Every (KeepsWhen B) whens × B other)
+KeepsKindAt b B (open_stmt.On n from upto stmts) =
+    IsNamed n × (KeepsExpr b from × (KeepsExpr b upto × B stmts))
+KeepsKindAt b B (open_stmt.ForFirst n file field r e l) =
+    IsNamed n × (IsNamed file × (IsNamed field × (KeepsExpr b e × IsNamed l)))
+KeepsKindAt b B (open_stmt.Send n r es fresh) =
+    IsNamed n × (IfSome r KeepsReference × IfSome es (KeepsExprs b))
 KeepsKindAt b B (open_stmt.Retrieve n ns) = IsNamed n × IfSome ns KeepsNames
 KeepsKindAt b B (open_stmt.Return n es) = IsNamed n × IfSome es (KeepsExprs b)
 KeepsKindAt b B (open_stmt.Transfer n r) = IsNamed n × IfSome r KeepsReference
@@ -181,13 +189,15 @@ KeepsField x = IsNamed x.name × (KeepsNumber x.width × IfSome x.init KeepsNumb
 abbrev pub KeepsDeclAt : DeclKind → Type 0
 KeepsDeclAt (decls.Variable n w i clear) = IsNamed n × (KeepsNumber w × IfSome i KeepsNumber)
 KeepsDeclAt (decls.Temporary n) = IsNamed n
-KeepsDeclAt (decls.File forlopp n size fields) = IsNamed n × (KeepsNumber size × Every KeepsField fields)
+KeepsDeclAt (decls.File forlopp n size fields) =
+    IsNamed n × (KeepsNumber size × Every KeepsField fields)
 
 abbrev pub KeepsDecl : Decl → Type 0
 KeepsDecl x = KeepsDeclAt x.kind
 
 abbrev pub KeepsBlock : ℕ → ℕ → Block → Type 0
-KeepsBlock b n x = IsNamed x.name × (Every KeepsDecl x.decls × (Every KeepsSurvey x.surveys × Every (KeepsItem b n) x.items))
+KeepsBlock b n x = IsNamed x.name × (Every KeepsDecl x.decls
+    × (Every KeepsSurvey x.surveys × Every (KeepsItem b n) x.items))
 
 -- signals and the whole
 

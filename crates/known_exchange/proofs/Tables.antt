@@ -1,5 +1,6 @@
 -- The lines of a signal file, and the signals of a table merged with them.
-use Rattle.std.proofs.Common.{◌≡◌, ℕ, ◌≤◌, ◌<◌, ◌^◌, List, length, Result, Ok, Err, ap, sym, subst, ◌∙◌, arith}
+use Rattle.std.proofs.Common.{◌≡◌, ℕ, ◌≤◌, ◌<◌, ◌^◌, List, length, Result, Ok, Err, ap, sym, subst}
+use Rattle.std.proofs.Common.{◌∙◌, arith}
 use Rattle.std.proofs.Math.Nat.{le_trans}
 use Rattle.plex_limits.specs.declared.limits.TheConstants.{MOST_BYTES}
 use Rattle.exchange_model.specs.declared.exchange.Exchange.{Exchange}
@@ -36,11 +37,17 @@ pub are_of_text : (x : Exchange) (text : List ℕ) (lines : List Line) → Ok li
 are_of_text x text lines is = record { text = text; are = sym is }
 
 -- the periods of a table, and what comes of them
-pub table_read : (lines : List Line) (said : Result (List Period) TableFault) (periods : List Period) (r : Result (List Line) Stop) → Ok periods ≡ said → ReadAs (Ok (merged lines periods)) r → ReadAs (goes_on (or_refused table_refusal said) (λ ps. Ok (merged lines ps))) r
+pub table_read : (lines : List Line) (said : Result (List Period) TableFault) (periods : List Period)
+    (r : Result (List Line) Stop) → Ok periods ≡ said → ReadAs (Ok (merged lines periods)) r
+    → ReadAs (goes_on (or_refused table_refusal said) (λ ps. Ok (merged lines ps))) r
 table_read lines said periods r is reads = subst (λ s. ReadAs (goes_on (or_refused table_refusal s) (λ ps. Ok (merged lines ps))) r) is reads
 
-pub table_refused : (lines : List Line) (said : Result (List Period) TableFault) (f : TableFault) (s : Stop) → Err f ≡ said → IsStopOf (table_refusal f) s → ReadAs (goes_on (or_refused table_refusal said) (λ ps. Ok (merged lines ps))) (Err s)
-table_refused lines said f s is stops = refused_so (goes_on (or_refused table_refusal said) (λ ps. Ok (merged lines ps))) (table_refusal f) s (ap (λ s. goes_on (or_refused table_refusal s) (λ ps. Ok (merged lines ps))) (sym is)) stops
+pub table_refused : (lines : List Line) (said : Result (List Period) TableFault) (f : TableFault) (s : Stop)
+    → Err f ≡ said → IsStopOf (table_refusal f) s
+    → ReadAs (goes_on (or_refused table_refusal said) (λ ps. Ok (merged lines ps))) (Err s)
+table_refused lines said f s is stops = refused_so
+    (goes_on (or_refused table_refusal said) (λ ps. Ok (merged lines ps))) (table_refusal f) s
+    (ap (λ s. goes_on (or_refused table_refusal s) (λ ps. Ok (merged lines ps))) (sym is)) stops
 
 -- how many merged lines there are
 pub length-merged : (lines : List Line) (periods : List Period) → length (merged lines periods) ≡ line_count lines periods
@@ -49,7 +56,9 @@ length-merged lines periods =
     length-numbered (number_in sorted) 1 sorted ∙ length-by_count (all_lines lines periods) ∙ length-all_lines lines periods
 
 -- merged lines fit the exchange, and are few
-pub merged_are_read : (x : Exchange) (lines all : List Line) (table : List ℕ) (periods : List Period) → AreOfText x lines → Ok periods ≡ table_periods x (length lines) table → line_count lines periods < 2 ^ 32 → all ≡ merged lines periods → AreRead x all
+pub merged_are_read : (x : Exchange) (lines all : List Line) (table : List ℕ) (periods : List Period)
+    → AreOfText x lines → Ok periods ≡ table_periods x (length lines) table → line_count lines periods < 2 ^ 32
+    → all ≡ merged lines periods → AreRead x all
 merged_are_read x lines all table periods of_text is few same =
     let many = length-merged lines periods in
     subst (AreRead x) (sym same) (record {

@@ -1,9 +1,11 @@
 -- What one flow gives to the rows: value by value, and slot by slot.
-use Rattle.std.proofs.Common.{◌≡◌, ◌⊎◌, inl, inr, ⊎_elim, ℕ, ◌+◌, ◌<◌, ◌≤◌, ◌||◌, Bool, true, false, List, [], ◌∷◌, length, take, get_or, refl, sym, ap, ◌∙◌, subst, arith}
+use Rattle.std.proofs.Common.{◌≡◌, ◌⊎◌, inl, inr, ⊎_elim, ℕ, ◌+◌, ◌<◌, ◌≤◌, ◌||◌, Bool, true, false}
+use Rattle.std.proofs.Common.{List, [], ◌∷◌, length, take, get_or, refl, sym, ap, ◌∙◌, subst, arith}
 use Rattle.std.specs.Bool.{MatchBool}
 use Rattle.std.specs.List.{Contains}
 use Rattle.std.proofs.lemmas.List.{get_or_default, take_all, take_more}
-use Rattle.std.proofs.lemmas.List.Elements.{Contains-append_left, Contains-push, Contains-push_cases}
+use Rattle.std.proofs.lemmas.List.Elements.{Contains-append_left, Contains-push}
+use Rattle.std.proofs.lemmas.List.Elements.{Contains-push_cases}
 use Rattle.plex_num.proofs.Members.{none_in}
 use Rattle.exchange_model.specs.declared.exchange.Exchange.{Exchange}
 use Rattle.exchange_model.specs.Kept.{IsExchange}
@@ -13,7 +15,8 @@ use Rattle.flow_points.specs.declared.fact.Slot.TheVariants.{Temp, Given, Answer
 use Rattle.flow_points.specs.declared.fact.Value.{Value}
 use Rattle.flow_points.specs.declared.fact.Value.TheVariants.{Const, Any}
 use Rattle.flow_points.specs.declared.flow.Passing.{Passing}
-use Rattle.flow_points.specs.declared.flow.Passing.TheVariants.{Kept, Sets, Takes, Retrieves, Begins, Passes, Calls, Answers}
+use Rattle.flow_points.specs.declared.flow.Passing.TheVariants.{Kept, Sets, Takes, Retrieves}
+use Rattle.flow_points.specs.declared.flow.Passing.TheVariants.{Begins, Passes, Calls, Answers}
 use Rattle.flow_points.specs.declared.flow.Source.{Source}
 use Rattle.flow_points.specs.declared.flow.Source.TheVariants.{Is, Of}
 use Rattle.flow_points.specs.Facts.{Facts, Guarded, IsLeast, Reached, SourceGives, fact}
@@ -35,13 +38,15 @@ use Rattle.least_facts.proofs.Fitting.{InRows, least_fits, spot_at, value_number
 
 -- ---- one after the other
 
-counted_then : (k m n : BitRows) (a b : Bool) → MatchBool a (missing m < missing k) (m ≡ k) → MatchBool b (missing n < missing m) (n ≡ m) → MatchBool (a || b) (missing n < missing k) (n ≡ k)
+counted_then : (k m n : BitRows) (a b : Bool) → MatchBool a (missing m < missing k) (m ≡ k)
+    → MatchBool b (missing n < missing m) (n ≡ m) → MatchBool (a || b) (missing n < missing k) (n ≡ k)
 counted_then k m n true true g h = omega (arith, g, h)
 counted_then k m n true false g h = subst (λ z. missing z < missing k) (sym h) g
 counted_then k m n false true g h = subst (λ z. missing n < missing z) g h
 counted_then k m n false false g h = h ∙ g
 
-gives_then : (k m n : BitRows) (G H Q : Fact → Type 0) (a b : Bool) → Gives k G a m → Gives m H b n → ((f : Fact) → Q f → G f ⊎ H f) → ((f : Fact) → G f ⊎ H f → Q f) → Gives k Q (a || b) n
+gives_then : (k m n : BitRows) (G H Q : Fact → Type 0) (a b : Bool) → Gives k G a m → Gives m H b n
+    → ((f : Fact) → Q f → G f ⊎ H f) → ((f : Fact) → G f ⊎ H f → Q f) → Gives k Q (a || b) n
 gives_then k m n G H Q a b g h from to = record {
   entry = h.entry ∙ g.entry;
   slots = h.slots ∙ g.slots;
@@ -62,7 +67,8 @@ item_there xs i d lt = (i, lt, get_or_default xs i (get_or xs i d) d lt)
 pub spot_fits : (slots : List Counts) (e q : ℕ) (s : Slot) (v : Value) → HasSpot slots q s → HasNumber s v → Fits slots (fact e q s v)
 spot_fits slots e q s v spot number = record { counts = spot.counts; there = spot.there; slot = spot.slot; number = number }
 
-pub fact_given : (k new : BitRows) (g : Fact) (grown : Bool) → AddsFact g k new → MatchBool grown (missing new + 1 ≡ missing k) (new ≡ k) → Gives k (IsFact g) grown new
+pub fact_given : (k new : BitRows) (g : Fact) (grown : Bool) → AddsFact g k new
+    → MatchBool grown (missing new + 1 ≡ missing k) (new ≡ k) → Gives k (IsFact g) grown new
 fact_given k new g grown adds counted = record { entry = adds.entry; slots = adds.slots; knows = adds.knows; counted = by grown counted }
   where
     by : (b : Bool) → MatchBool b (missing new + 1 ≡ missing k) (new ≡ k) → MatchBool b (missing new < missing k) (new ≡ k)
@@ -75,7 +81,8 @@ none_yet (x ∷ xs) y c = none_in y c
 
 -- what stands in front of a place, or at it
 pub before_or_here : {A : Type 0} (xs : List A) (i : ℕ) (d y : A) → i < length xs → Contains (take (i + 1) xs) y → Contains (take i xs) y ⊎ (y ≡ get_or xs i d)
-before_or_here xs i d y lt c = ⊎_elim inl (λ e. inr (sym e)) (Contains-push_cases (take i xs) (get_or xs i d) y (subst (λ l. Contains l y) (take_more xs i d lt) c))
+before_or_here xs i d y lt c = ⊎_elim inl (λ e. inr (sym e))
+    (Contains-push_cases (take i xs) (get_or xs i d) y (subst (λ l. Contains l y) (take_more xs i d lt) c))
 
 pub still_before : {A : Type 0} (xs : List A) (i : ℕ) (d y : A) → i < length xs → Contains (take i xs) y → Contains (take (i + 1) xs) y
 still_before xs i d y lt c = subst (λ l. Contains l y) (sym (take_more xs i d lt)) (Contains-append_left (take i xs) (get_or xs i d ∷ []) y c)
@@ -91,7 +98,8 @@ values_begin k e q s values = record {
   counted = refl;
 }
 
-pub values_more : (k now new : BitRows) (e q : ℕ) (s : Slot) (values : List Value) (i : ℕ) (d : Value) (grown b : Bool) → i < length values → Gives now (IsFact (fact e q s (get_or values i d))) b new
+pub values_more : (k now new : BitRows) (e q : ℕ) (s : Slot) (values : List Value) (i : ℕ) (d : Value) (grown b : Bool)
+    → i < length values → Gives now (IsFact (fact e q s (get_or values i d))) b new
     → Gives k (OfValues e q s (take i values)) grown now → Gives k (OfValues e q s (take (i + 1) values)) (grown || b) new
 values_more k now new e q s values i d grown b lt h g =
     gives_then k now new (OfValues e q s (take i values)) (IsFact (fact e q s (get_or values i d))) (OfValues e q s (take (i + 1) values)) grown b g h
@@ -108,58 +116,89 @@ values_more k now new e q s values i d grown b lt h g =
       value = subst (Contains (take (i + 1) values)) (sym (ap (λ (z : Fact). z.value) is)) (now_before values i d lt);
     }) w)
 
-pub values_end : (k now : BitRows) (e q : ℕ) (s : Slot) (values : List Value) (i : ℕ) (grown : Bool) → length values ≤ i → Gives k (OfValues e q s (take i values)) grown now → Gives k (OfValues e q s values) grown now
+pub values_end : (k now : BitRows) (e q : ℕ) (s : Slot) (values : List Value) (i : ℕ) (grown : Bool) → length values ≤ i
+    → Gives k (OfValues e q s (take i values)) grown now → Gives k (OfValues e q s values) grown now
 values_end k now e q s values i grown past g = subst (λ l. Gives k (OfValues e q s l) grown now) (take_all i values past) g
 
-pub some_given : (k new : BitRows) (e p q : ℕ) (s : Slot) (source : Source) (values seen : List Value) (grown : Bool) → AreValues (SourceGives (Knows k) e p source) values → seen ≡ values
+pub some_given : (k new : BitRows) (e p q : ℕ) (s : Slot) (source : Source) (values seen : List Value) (grown : Bool)
+    → AreValues (SourceGives (Knows k) e p source) values → seen ≡ values
     → Gives k (OfValues e q s seen) grown new → Gives k (SlotGives (Knows k) e p source q s) grown new
 some_given k new e p q s source values seen grown are same g = record {
   entry = g.entry;
   slots = g.slots;
   knows = λ f. (
-    λ c. ⊎_elim (λ o. inl (record { entry = o.entry; point = o.point; slot = o.slot; gives = are.each f.value (subst (λ l. Contains l f.value) same o.value) })) inr ((g.knows f).0 c),
+    λ c. ⊎_elim (λ o. inl (record {
+      entry = o.entry;
+      point = o.point;
+      slot = o.slot;
+      gives = are.each f.value (subst (λ l. Contains l f.value) same o.value);
+    })) inr ((g.knows f).0 c),
     λ w. ⊎_elim
-        (λ (o : SlotGives (Knows k) e p source q s f). (g.knows f).1 (inl (record { entry = o.entry; point = o.point; slot = o.slot; value = subst (λ l. Contains l f.value) (sym same) (are.listed f.value o.gives) })))
+        (λ (o : SlotGives (Knows k) e p source q s f). (g.knows f).1
+        (inl (record {
+          entry = o.entry;
+          point = o.point;
+          slot = o.slot;
+          value = subst (λ l. Contains l f.value) (sym same) (are.listed f.value o.gives);
+        })))
         (λ old. (g.knows f).1 (inr old)) w,
   );
   counted = g.counted;
 }
 
-pub seen_number : (k : BitRows) (e p : ℕ) (s : Slot) (source : Source) (values seen : List Value) → AreValues (SourceGives (Knows k) e p source) values → seen ≡ values → ((v : Value) → SourceGives (Knows k) e p source v → HasNumber s v)
+pub seen_number : (k : BitRows) (e p : ℕ) (s : Slot) (source : Source) (values seen : List Value)
+    → AreValues (SourceGives (Knows k) e p source) values → seen ≡ values
+    → ((v : Value) → SourceGives (Knows k) e p source v → HasNumber s v)
     → (v : Value) → Contains seen v → HasNumber s v
 seen_number k e p s source values seen are same number v c = number v (are.each v (subst (λ l. Contains l v) same c))
 
 -- one value
-pub one_number : (k : BitRows) (e p : ℕ) (s : Slot) (source : Source) (v : Value) → source ≡ Is v → ((w : Value) → SourceGives (Knows k) e p source w → HasNumber s w) → HasNumber s v
+pub one_number : (k : BitRows) (e p : ℕ) (s : Slot) (source : Source) (v : Value) → source ≡ Is v
+    → ((w : Value) → SourceGives (Knows k) e p source w → HasNumber s w) → HasNumber s v
 one_number k e p s source v is number = number v (subst (λ o. SourceGives (Knows k) e p o v) (sym is) refl)
 
-pub one_given : (k new : BitRows) (e p q : ℕ) (s : Slot) (source : Source) (v : Value) (grown : Bool) → source ≡ Is v → Gives k (IsFact (fact e q s v)) grown new → Gives k (SlotGives (Knows k) e p source q s) grown new
+pub one_given : (k new : BitRows) (e p q : ℕ) (s : Slot) (source : Source) (v : Value) (grown : Bool) → source ≡ Is v
+    → Gives k (IsFact (fact e q s v)) grown new → Gives k (SlotGives (Knows k) e p source q s) grown new
 one_given k new e p q s source v grown is g = subst (λ o. Gives k (SlotGives (Knows k) e p o q s) grown new) (sym is) (record {
   entry = g.entry;
   slots = g.slots;
   knows = λ f. (
     λ c. ⊎_elim
-        (λ (one : f ≡ fact e q s v). inl (record { entry = ap (λ (z : Fact). z.entry) one; point = ap (λ (z : Fact). z.point) one; slot = ap (λ (z : Fact). z.slot) one; gives = ap (λ (z : Fact). z.value) one }))
+        (λ (one : f ≡ fact e q s v). inl (record {
+          entry = ap (λ (z : Fact). z.entry) one;
+          point = ap (λ (z : Fact). z.point) one;
+          slot = ap (λ (z : Fact). z.slot) one;
+          gives = ap (λ (z : Fact). z.value) one;
+        }))
         inr ((g.knows f).0 c),
     λ w. ⊎_elim
-        (λ (o : SlotGives (Knows k) e p (Is v) q s f). (g.knows f).1 (inl (λ j. record { entry = o.entry j; point = o.point j; slot = o.slot j; value = o.gives j })))
+        (λ (o : SlotGives (Knows k) e p (Is v) q s f). (g.knows f).1
+        (inl (λ j. record { entry = o.entry j; point = o.point j; slot = o.slot j; value = o.gives j })))
         (λ old. (g.knows f).1 (inr old)) w,
   );
   counted = g.counted;
 })
 
 -- all values of another slot
-pub all_given : (k new : BitRows) (e p q : ℕ) (own s : Slot) (source : Source) (grown : Bool) → k.entry ≡ e → source ≡ Of own → Joins (key p own) (key q s) k new → MatchBool grown (missing new < missing k) (new ≡ k)
+pub all_given : (k new : BitRows) (e p q : ℕ) (own s : Slot) (source : Source) (grown : Bool) → k.entry ≡ e
+    → source ≡ Of own → Joins (key p own) (key q s) k new → MatchBool grown (missing new < missing k) (new ≡ k)
     → Gives k (SlotGives (Knows k) e p source q s) grown new
 all_given k new e p q own s source grown of_entry is joins counted = subst (λ o. Gives k (SlotGives (Knows k) e p o q s) grown new) (sym is) (record {
   entry = joins.entry;
   slots = joins.slots;
   knows = λ f. (
     λ c. ⊎_elim
-        (λ w. (let entry : f.entry ≡ e = w.2.entry ∙ of_entry in inl (record { entry = entry; point = w.0; slot = w.1; gives = subst (λ n. Knows k (fact n p own f.value)) entry w.2 })))
+        (λ w. (let entry : f.entry ≡ e = w.2.entry
+        ∙ of_entry in inl (record {
+          entry = entry;
+          point = w.0;
+          slot = w.1;
+          gives = subst (λ n. Knows k (fact n p own f.value)) entry w.2;
+        })))
         inr ((joins.knows f).0 c),
     λ w. ⊎_elim
-        (λ (o : SlotGives (Knows k) e p (Of own) q s f). (joins.knows f).1 (inl (o.point, o.slot, subst (λ n. Knows k (fact n p own f.value)) (sym o.entry) o.gives)))
+        (λ (o : SlotGives (Knows k) e p (Of own) q s f). (joins.knows f).1
+        (inl (o.point, o.slot, subst (λ n. Knows k (fact n p own f.value)) (sym o.entry) o.gives)))
         (λ old. (joins.knows f).1 (inr old)) w,
   );
   counted = counted;
@@ -167,7 +206,9 @@ all_given k new e p q own s source grown of_entry is joins counted = subst (λ o
 
 -- ---- what a flow asks for
 
-pub guard_by : (P Q : Facts) (e p q : ℕ) → ((c : ℕ) → P (fact e p Depth (Const c)) → Q (fact e p Depth (Const c))) → (how : Passing) → (is_answer how ≡ true → Reached P e q → Reached Q e q) → Guarded P e p q how → Guarded Q e p q how
+pub guard_by : (P Q : Facts) (e p q : ℕ) → ((c : ℕ) → P (fact e p Depth (Const c)) → Q (fact e p Depth (Const c)))
+    → (how : Passing) → (is_answer how ≡ true → Reached P e q → Reached Q e q) → Guarded P e p q how
+    → Guarded Q e p q how
 guard_by P Q e p q own Kept other g = g
 guard_by P Q e p q own (Sets temp s) other g = g
 guard_by P Q e p q own (Takes temps) other g = g
@@ -177,7 +218,8 @@ guard_by P Q e p q own (Passes count) other g = g
 guard_by P Q e p q own (Calls values answer) other g = (g.0, g.1, own g.0 g.2)
 guard_by P Q e p q own (Answers values) other g = other refl g
 
-pub flows_more : (x : Exchange) (P Q : Facts) (e p : ℕ) (how : Passing) (q : ℕ) (f : Fact) → ((g : Fact) → P g → Q g) → FlowsTo x P e p how q f → FlowsTo x Q e p how q f
+pub flows_more : (x : Exchange) (P Q : Facts) (e p : ℕ) (how : Passing) (q : ℕ) (f : Fact) → ((g : Fact) → P g → Q g)
+    → FlowsTo x P e p how q f → FlowsTo x Q e p how q f
 flows_more x P Q e p how q f more h = record {
   entry = h.entry;
   point = h.point;
@@ -219,7 +261,8 @@ fills_then x q k m n a b g h = record {
 }
 
 -- where all that is given is least
-pub fills_given : (x : Exchange) (q : ℕ) (k new : BitRows) (G : Fact → Type 0) (grown : Bool) → Gives k G grown new → ((f : Fact) → G f → (f.point ≡ q) × IsLeast x f) → Fills x q k grown new
+pub fills_given : (x : Exchange) (q : ℕ) (k new : BitRows) (G : Fact → Type 0) (grown : Bool) → Gives k G grown new
+    → ((f : Fact) → G f → (f.point ≡ q) × IsLeast x f) → Fills x q k grown new
 fills_given x q k new G grown g least = record {
   entry = g.entry;
   slots = g.slots;
@@ -234,7 +277,9 @@ slots_begin x e p how q slots k = record {
   all = λ f g. absurd (none_yet slots f.slot g.slot);
 }
 
-module _ (x : Exchange) (t : FlowTable) (e p : ℕ) (how : Passing) (q : ℕ) (k : BitRows) (kept : IsExchange x) (table : IsFlowTable x t) (can : CanFlow x t e p how q k) (slots : List Slot) (has : (s : Slot) → Contains slots s → HasSlot x q s) (i : ℕ) (d : Slot) (lt : i < length slots)
+module _ (x : Exchange) (t : FlowTable) (e p : ℕ) (how : Passing) (q : ℕ) (k : BitRows) (kept : IsExchange x)
+    (table : IsFlowTable x t) (can : CanFlow x t e p how q k) (slots : List Slot)
+    (has : (s : Slot) → Contains slots s → HasSlot x q s) (i : ℕ) (d : Slot) (lt : i < length slots)
     (grown : Bool) (now : BitRows) (g : FillsSlots x e p how q (take i slots) k grown now) where
   abbrev s : Slot
   s = get_or slots i d
@@ -254,7 +299,9 @@ module _ (x : Exchange) (t : FlowTable) (e p : ℕ) (how : Passing) (q : ℕ) (k
   pub slot_number : (source : Source) → source ≡ source_of how s → (v : Value) → SourceGives (Knows now) e p source v → HasNumber s v
   slot_number source is v gives =
       value_numbered t e p s (source_of how s) v (can.good.fits s)
-      (source_alike (Knows now) (InRows t) e p (λ u w c. least_fits t x kept table (fact e p u w) (all_least (fact e p u w) c)) (source_of how s) v (subst (λ o. SourceGives (Knows now) e p o v) is gives))
+      (source_alike (Knows now) (InRows t) e p
+      (λ u w c. least_fits t x kept table (fact e p u w) (all_least (fact e p u w) c)) (source_of how s) v
+      (subst (λ o. SourceGives (Knows now) e p o v) is gives))
 
   given_least : (f : Fact) → SlotGives (Knows now) e p (source_of how s) q s f → (f.point ≡ q) × IsLeast x f
   given_least f h = (
@@ -262,13 +309,18 @@ module _ (x : Exchange) (t : FlowTable) (e p : ℕ) (how : Passing) (q : ℕ) (k
     can.good.least f (record {
       entry = h.entry;
       point = h.point;
-      guarded = guard_by (Knows k) (IsLeast x) e p q (λ c. can.least (fact e p Depth (Const c))) how (λ is r. (r.0, can.least (fact e q Depth r.0) r.1)) can.guarded;
+      guarded = guard_by (Knows k) (IsLeast x) e p q (λ c. can.least (fact e p Depth (Const c))) how
+          (λ is r. (r.0, can.least (fact e q Depth r.0) r.1)) can.guarded;
       slot = subst (HasSlot x q) (sym h.slot) there;
-      gives = subst (λ u. SourceGives (IsLeast x) e p (source_of how u) f.value) (sym h.slot) (source_alike (Knows now) (IsLeast x) e p (λ u w. all_least (fact e p u w)) (source_of how s) f.value h.gives);
+      gives = subst (λ u. SourceGives (IsLeast x) e p (source_of how u) f.value) (sym h.slot)
+          (source_alike (Knows now) (IsLeast x) e p (λ u w. all_least (fact e p u w)) (source_of how s) f.value
+          h.gives);
     }),
   )
 
-  pub slots_more : (source : Source) → source ≡ source_of how s → (b : Bool) (new : BitRows) → Gives now (SlotGives (Knows now) e p source q s) b new → FillsSlots x e p how q (take (i + 1) slots) k (grown || b) new
+  pub slots_more : (source : Source) → source ≡ source_of how s → (b : Bool) (new : BitRows)
+      → Gives now (SlotGives (Knows now) e p source q s) b new
+      → FillsSlots x e p how q (take (i + 1) slots) k (grown || b) new
   slots_more source is b new given =
       let own : Gives now (SlotGives (Knows now) e p (source_of how s) q s) b new = subst (λ o. Gives now (SlotGives (Knows now) e p o q s) b new) is given in
       record {
@@ -280,10 +332,13 @@ module _ (x : Exchange) (t : FlowTable) (e p : ℕ) (how : Passing) (q : ℕ) (k
               entry = h.entry;
               point = h.point;
               slot = here;
-              gives = source_alike (Knows k) (Knows now) e p (λ u w. g.fills.more (fact e p u w)) (source_of how s) f.value (subst (λ u. SourceGives (Knows k) e p (source_of how u) f.value) here h.gives);
+              gives = source_alike (Knows k) (Knows now) e p (λ u w. g.fills.more (fact e p u w)) (source_of how s)
+                  f.value (subst (λ u. SourceGives (Knows k) e p (source_of how u) f.value) here h.gives);
             })))
             (before_or_here slots i d f.slot lt h.slot);
       }
 
-pub slots_end : (x : Exchange) (e p : ℕ) (how : Passing) (q : ℕ) (slots : List Slot) (k now : BitRows) (i : ℕ) (grown : Bool) → length slots ≤ i → FillsSlots x e p how q (take i slots) k grown now → FillsSlots x e p how q slots k grown now
+pub slots_end : (x : Exchange) (e p : ℕ) (how : Passing) (q : ℕ) (slots : List Slot) (k now : BitRows) (i : ℕ)
+    (grown : Bool) → length slots ≤ i → FillsSlots x e p how q (take i slots) k grown now
+    → FillsSlots x e p how q slots k grown now
 slots_end x e p how q slots k now i grown past g = subst (λ l. FillsSlots x e p how q l k grown now) (take_all i slots past) g

@@ -69,11 +69,15 @@ module _ (t : FlowTable) where
       }
 
   rows_closed : (x : Exchange) → IsExchange x → IsFlowTable x t → IsClosed x InRows
-  rows_closed x kept table f (inl g) = fits x f table g.slot (value_numbered f.entry f.point f.slot (start_source _ f.slot) f.value (start_fits x kept g.entry.signal f.slot) g.gives)
+  rows_closed x kept table f (inl g) = fits x f table g.slot
+      (value_numbered f.entry f.point f.slot (start_source _ f.slot) f.value (start_fits x kept g.entry.signal f.slot)
+      g.gives)
   rows_closed x kept table f (inr (p, g)) =
       let w = g.flow in
       fits x f table w.slot
-      (value_numbered f.entry g.at.point f.slot (source_of g.how f.slot) f.value (leads_fit x kept g.at.block g.at.point g.at.next g.at.layer f.point g.how (place_fits x g.at kept g.stands.place) w.leads f.slot) w.gives)
+      (value_numbered f.entry g.at.point f.slot (source_of g.how f.slot) f.value
+      (leads_fit x kept g.at.block g.at.point g.at.next g.at.layer f.point g.how
+      (place_fits x g.at kept g.stands.place) w.leads f.slot) w.gives)
 
   pub least_fits : (x : Exchange) → IsExchange x → IsFlowTable x t → (f : Fact) → IsLeast x f → Fits (slots_of t) f
   least_fits x kept table f h = least_in x InRows (rows_closed x kept table) f h

@@ -1,5 +1,7 @@
 -- Each source over a flow gives values that have a number in the plane of the slot.
-use Rattle.std.proofs.Common.{◌≡◌, ℕ, zero, suc, ◌+◌, ◌<◌, ◌≤◌, Bool, true, false, nat_lt, nat_eq, if◌then◌else◌, List, [], ◌∷◌, length, map, Option, Some, None, slice_get, refl, sym, ap, subst, arith}
+use Rattle.std.proofs.Common.{◌≡◌, ℕ, zero, suc, ◌+◌, ◌<◌, ◌≤◌, Bool, true, false, nat_lt, nat_eq}
+use Rattle.std.proofs.Common.{if◌then◌else◌, List, [], ◌∷◌, length, map, Option, Some, None}
+use Rattle.std.proofs.Common.{slice_get, refl, sym, ap, subst, arith}
 use Rattle.std.proofs.lemmas.Bool.{ltb-true}
 use Rattle.std.proofs.lemmas.Option.{slice_get_within}
 use Rattle.std.specs.List.{AllByRecursion}
@@ -17,7 +19,8 @@ use Rattle.exchange_model.specs.Fits.{Scope, ExprFits, FactorFits}
 use Rattle.exchange_model.specs.Inside.{own_exprs}
 use Rattle.exchange_model.specs.Kept.{IsExchange, IsAnswerOf, scope_of}
 use Rattle.exchange_model.specs.PartFits.{TermFits, JoinedFits, FactorOwnFits, InsideFits}
-use Rattle.exchange_model.proofs.Layers.{expr_fits-out, term_fits-out, joined_fits-out, factor_fits-out}
+use Rattle.exchange_model.proofs.Layers.{expr_fits-out, term_fits-out, joined_fits-out}
+use Rattle.exchange_model.proofs.Layers.{factor_fits-out}
 use Rattle.source_meaning.specs.Changes.{value_count}
 use Rattle.source_meaning.specs.Named.{Layer}
 use Rattle.source_meaning.specs.Rests.{IsOfBlock}
@@ -27,16 +30,20 @@ use Rattle.flow_points.specs.declared.fact.Slot.{Slot}
 use Rattle.flow_points.specs.declared.fact.Slot.TheVariants.{Temp, Given, Answered, Depth, Awaits}
 use Rattle.flow_points.specs.declared.fact.Value.TheVariants.{Arg, Const, Any}
 use Rattle.flow_points.specs.declared.flow.Passing.{Passing}
-use Rattle.flow_points.specs.declared.flow.Passing.TheVariants.{Kept, Sets, Takes, Retrieves, Begins, Passes, Calls, Answers}
+use Rattle.flow_points.specs.declared.flow.Passing.TheVariants.{Kept, Sets, Takes, Retrieves}
+use Rattle.flow_points.specs.declared.flow.Passing.TheVariants.{Begins, Passes, Calls, Answers}
 use Rattle.flow_points.specs.declared.flow.Source.{Source}
 use Rattle.flow_points.specs.declared.flow.Source.TheVariants.{Of, Is, Nothing}
 use Rattle.flow_points.specs.Flows.{Leads}
-use Rattle.flow_points.specs.Sources.{at_place, expr_source, kept, lone_source, named, source_of, start_source}
+use Rattle.flow_points.specs.Sources.{at_place, expr_source, kept, lone_source, named, source_of}
+use Rattle.flow_points.specs.Sources.{start_source}
 use Rattle.flow_table.specs.declared.way.Way.{Way}
 use Rattle.flow_table.specs.Alone.{term_source, joined_source, own_source}
-use Rattle.flow_table.specs.Shapes.{Shape, Stays, Assigns, Finds, TakesGiven, TakesAnswer, Starts, Transfers, Asks, GivesAnswer}
+use Rattle.flow_table.specs.Shapes.{Shape, Stays, Assigns, Finds, TakesGiven, TakesAnswer, Starts}
+use Rattle.flow_table.specs.Shapes.{Transfers, Asks, GivesAnswer}
 use Rattle.flow_table.proofs.Shaping.{led_by}
-use Rattle.flow_table.proofs.Sourcing.{expr_source-out, term_source-out, joined_source-out, factor_as}
+use Rattle.flow_table.proofs.Sourcing.{expr_source-out, term_source-out, joined_source-out}
+use Rattle.flow_table.proofs.Sourcing.{factor_as}
 use Rattle.least_facts.specs.Fit.{HowFits, NumberedSource, SourceFits}
 use Rattle.flow_points.proofs.Few.{count_few}
 
@@ -60,7 +67,8 @@ module _ (s : Scope) (few : length s.blocks ≤ MOST_BLOCKS) where
   alone_term (t ∷ []) each fit = each.0 fit.0
   alone_term (t ∷ u ∷ ts) each fit = tt
 
-  alone_factor : (js : List Joined) → AllByRecursion (λ (j : Joined). FactorNumbered j.factor) js → AllByRecursion (JoinedFits s) js → NumberedSource (lone_source (map joined_source js))
+  alone_factor : (js : List Joined) → AllByRecursion (λ (j : Joined). FactorNumbered j.factor) js
+      → AllByRecursion (JoinedFits s) js → NumberedSource (lone_source (map joined_source js))
   alone_factor [] each fit = tt
   alone_factor (j ∷ []) each fit = subst NumberedSource (sym (joined_source-out j)) (each.0 (joined_fits-out s j fit.0))
   alone_factor (j ∷ k ∷ js) each fit = tt
@@ -76,11 +84,16 @@ module _ (s : Scope) (few : length s.blocks ≤ MOST_BLOCKS) where
     number = λ n fit. subst NumberedSource (factor_as (factor.Number n) (layer.Number n) (factor.outs-Number n)) (small_number n (nat_lt n SMALL_NUMBERS) refl);
     variable = λ v fit. subst NumberedSource (factor_as (factor.Variable v) (layer.Variable v) (factor.outs-Variable v)) tt;
     temporary = λ t fit. subst NumberedSource (factor_as (factor.Temporary t) (layer.Temporary t) (factor.outs-Temporary t)) (λ v h. h);
-    field = λ file field pointer fit. subst NumberedSource (factor_as (factor.Field file field pointer) (layer.Field file field pointer) (factor.outs-Field file field pointer)) tt;
-    bracket = λ e inside fit. subst NumberedSource (factor_as (factor.Bracket e) (layer.Bracket e) (factor.outs-Bracket e)) (inside (subst (InsideFits s) (factor.outs-Bracket e) (factor_fits-out s (factor.Bracket e) fit).1));
+    field = λ file field pointer fit. subst NumberedSource
+        (factor_as (factor.Field file field pointer) (layer.Field file field pointer)
+        (factor.outs-Field file field pointer)) tt;
+    bracket = λ e inside fit. subst NumberedSource
+        (factor_as (factor.Bracket e) (layer.Bracket e) (factor.outs-Bracket e))
+        (inside (subst (InsideFits s) (factor.outs-Bracket e) (factor_fits-out s (factor.Bracket e) fit).1));
     reference = λ b fit.
         subst NumberedSource (factor_as (factor.Reference b) (layer.Reference b) (factor.outs-Reference b))
-        (let below : b < length s.blocks = subst (FactorFits s) (factor.outs-Reference b) (factor_fits-out s (factor.Reference b) fit).0 in omega (arith, below, few));
+        (let below : b < length s.blocks = subst (FactorFits s) (factor.outs-Reference b)
+        (factor_fits-out s (factor.Reference b) fit).0 in omega (arith, below, few));
   }
 
   expr_numbered : (e : Expr) → ExprFits s e → NumberedSource (expr_source e)
@@ -110,9 +123,11 @@ sets_fit temp source h (Answered k) = tt
 sets_fit temp source h Depth = λ v h. h
 sets_fit temp source h Awaits = λ v h. h
 
-named_fits : (names : List ℕ) (slot : ℕ → Slot) → ((k : ℕ) → NumberedSource (Of (slot k))) → (k t : ℕ) (before : Source) → NumberedSource before → NumberedSource (named names slot k t before)
+named_fits : (names : List ℕ) (slot : ℕ → Slot) → ((k : ℕ) → NumberedSource (Of (slot k))) → (k t : ℕ) (before : Source)
+    → NumberedSource before → NumberedSource (named names slot k t before)
 named_fits [] slot each k t before h = h
-named_fits (name ∷ names) slot each k t before h = named_fits names slot each (k + 1) t (if nat_eq t name then Of (slot k) else before) (either (nat_eq t name) (Of (slot k)) before (each k) h)
+named_fits (name ∷ names) slot each k t before h = named_fits names slot each (k + 1) t
+    (if nat_eq t name then Of (slot k) else before) (either (nat_eq t name) (Of (slot k)) before (each k) h)
 
 takes_fit : (names : List ℕ) → HowFits (Takes names)
 takes_fit names (Temp t) = named_fits names (λ k. Given k) (λ k v h. h) 0 t (Of (Temp t)) (λ v h. h)
@@ -163,7 +178,8 @@ answers_fit values each Awaits = tt
 
 -- statements
 
-answer_some : (signals : List SignalKind) (combined answer : ℕ) (o : Option SignalKind) → slice_get signals answer ≡ o → IsAnswerOf combined o → answer < length signals
+answer_some : (signals : List SignalKind) (combined answer : ℕ) (o : Option SignalKind) → slice_get signals answer ≡ o
+    → IsAnswerOf combined o → answer < length signals
 answer_some signals combined answer None there is = absurd is
 answer_some signals combined answer (Some s) there is = slice_get_within signals answer s there
 
@@ -185,7 +201,9 @@ module _ (x : Exchange) (exchange : IsExchange x) where
 
       by : Shape x l w → HowFits w.how
       by (Stays is) = as_made w.how Kept is kept_all
-      by (Assigns temp e own is) = as_made w.how (Sets temp (expr_source e)) is (sets_fit temp (expr_source e) (expr_numbered (scope_of x b of.block) exchange.blocks.few e (each (e ∷ []) own).0))
+      by (Assigns temp e own is) = as_made w.how (Sets temp (expr_source e)) is
+          (sets_fit temp (expr_source e) (expr_numbered (scope_of x b of.block) exchange.blocks.few e
+          (each (e ∷ []) own).0))
       by (Finds temp is) = as_made w.how (Sets temp (Is Any)) is (sets_fit temp (Is Any) tt)
       by (TakesGiven signal temps kind is) = as_made w.how (Takes temps) is (takes_fit temps)
       by (TakesAnswer answer temps kind is) = as_made w.how (Retrieves temps) is (retrieves_fit temps)
@@ -195,7 +213,8 @@ module _ (x : Exchange) (exchange : IsExchange x) where
           let next = exchange.signals.answers signal (Combined name count answer) there in
           let below = answer_some x.signals signal answer (slice_get x.signals answer) refl next.1 in
           let few = exchange.signals.few in
-          as_made w.how (Calls (map expr_source values) answer) is (calls_fit (map expr_source values) answer (values_fit values own) (omega (arith, below, few)))
+          as_made w.how (Calls (map expr_source values) answer) is
+          (calls_fit (map expr_source values) answer (values_fit values own) (omega (arith, below, few)))
       by (GivesAnswer answer values kind is to) =
           as_made w.how (Answers (map expr_source values)) is (answers_fit (map expr_source values) (values_fit values (ap (λ (k : Layer). own_exprs k) kind)))
 

@@ -1,5 +1,7 @@
 -- The slots of a row, place by place.
-use Rattle.std.proofs.Common.{◌≡◌, inl, ℕ, zero, suc, ◌+◌, ◌-◌, ◌<◌, ◌≤◌, Bool, false, List, [], ◌∷◌, ◌++◌, length, map, Some, slice_get, get_or, refl, sym, ap, ◌∙◌, arith, length-append}
+use Rattle.std.proofs.Common.{◌≡◌, inl, ℕ, zero, suc, ◌+◌, ◌-◌, ◌<◌, ◌≤◌, Bool, false, List, []}
+use Rattle.std.proofs.Common.{◌∷◌, ◌++◌, length, map, Some, slice_get, get_or, refl, sym, ap, ◌∙◌}
+use Rattle.std.proofs.Common.{arith, length-append}
 use Rattle.std.specs.List.{Contains, range_with_len}
 use Rattle.std.proofs.lemmas.List.{get_or_append_left, get_or-append_right}
 use Rattle.std.proofs.lemmas.List.FromFn.{get_or-map-range_with_len, length-map-range_with_len}
@@ -47,7 +49,16 @@ module _ (r : Row) where
   as' = those Answered r.answered
 
   pub row_long : r.temps + r.given + r.answered + 2 ≡ length (row_slots r)
-  row_long = omega (arith, length-append ts (gs ++ (as' ++ ends)), length-append gs (as' ++ ends), length-append as' ends, long Temp r.temps, long Given r.given, long Answered r.answered)
+  row_long = omega (
+    arith,
+    length-append ts (gs ++ (as' ++ ends)),
+    length-append gs (as' ++ ends),
+    length-append as'
+        ends,
+    long Temp r.temps,
+    long Given r.given,
+    long Answered r.answered,
+  )
 
   past_temps : (i : ℕ) → r.temps ≤ i → get_or (row_slots r) i slot.Awaits ≡ get_or (gs ++ (as' ++ ends)) (i - r.temps) slot.Awaits
   past_temps i past = get_or-append_right ts (gs ++ (as' ++ ends)) r.temps i slot.Awaits (long Temp r.temps) past
@@ -55,23 +66,31 @@ module _ (r : Row) where
   past_given : (i : ℕ) → r.temps + r.given ≤ i → get_or (row_slots r) i slot.Awaits ≡ get_or (as' ++ ends) (i - (r.temps + r.given)) slot.Awaits
   past_given i past =
       let e : i - r.temps - r.given ≡ i - (r.temps + r.given) = omega arith in
-      past_temps i (omega arith) ∙ get_or-append_right gs (as' ++ ends) r.given (i - r.temps) slot.Awaits (long Given r.given) (omega arith) ∙ ap (λ k. get_or (as' ++ ends) k slot.Awaits) e
+      past_temps i (omega arith) ∙ get_or-append_right gs (as' ++ ends) r.given (i - r.temps) slot.Awaits
+      (long Given r.given) (omega arith) ∙ ap (λ k. get_or (as' ++ ends) k slot.Awaits) e
 
-  past_answered : (i : ℕ) → r.temps + r.given + r.answered ≤ i → get_or (row_slots r) i slot.Awaits ≡ get_or ends (i - (r.temps + r.given + r.answered)) slot.Awaits
+  past_answered : (i : ℕ) → r.temps + r.given + r.answered ≤ i
+      → get_or (row_slots r) i slot.Awaits ≡ get_or ends (i - (r.temps + r.given + r.answered)) slot.Awaits
   past_answered i past =
       let e : i - (r.temps + r.given) - r.answered ≡ i - (r.temps + r.given + r.answered) = omega arith in
-      past_given i (omega arith) ∙ get_or-append_right as' ends r.answered (i - (r.temps + r.given)) slot.Awaits (long Answered r.answered) (omega arith) ∙ ap (λ k. get_or ends k slot.Awaits) e
+      past_given i (omega arith) ∙ get_or-append_right as' ends r.answered (i - (r.temps + r.given)) slot.Awaits
+      (long Answered r.answered) (omega arith) ∙ ap (λ k. get_or ends k slot.Awaits) e
 
   pub at_temp : (i : ℕ) → i < r.temps → slot.Temp i ≡ get_or (row_slots r) i slot.Awaits
   at_temp i lt = at_number Temp r.temps i lt ∙ sym (get_or_append_left ts (gs ++ (as' ++ ends)) slot.Awaits i (omega (arith, lt, long Temp r.temps)))
 
   pub at_given : (i : ℕ) → r.temps ≤ i → i < r.temps + r.given → slot.Given (i - r.temps) ≡ get_or (row_slots r) i slot.Awaits
   at_given i past lt =
-      at_number Given r.given (i - r.temps) (omega arith) ∙ sym (past_temps i past ∙ get_or_append_left gs (as' ++ ends) slot.Awaits (i - r.temps) (omega (arith, long Given r.given)))
+      at_number Given r.given (i - r.temps) (omega arith)
+      ∙ sym (past_temps i past ∙ get_or_append_left gs (as' ++ ends) slot.Awaits (i - r.temps)
+      (omega (arith, long Given r.given)))
 
-  pub at_answered : (i : ℕ) → r.temps + r.given ≤ i → i < r.temps + r.given + r.answered → slot.Answered (i - (r.temps + r.given)) ≡ get_or (row_slots r) i slot.Awaits
+  pub at_answered : (i : ℕ) → r.temps + r.given ≤ i → i < r.temps + r.given + r.answered
+      → slot.Answered (i - (r.temps + r.given)) ≡ get_or (row_slots r) i slot.Awaits
   at_answered i past lt =
-      at_number Answered r.answered (i - (r.temps + r.given)) (omega arith) ∙ sym (past_given i past ∙ get_or_append_left as' ends slot.Awaits (i - (r.temps + r.given)) (omega (arith, long Answered r.answered)))
+      at_number Answered r.answered (i - (r.temps + r.given)) (omega arith)
+      ∙ sym (past_given i past ∙ get_or_append_left as' ends slot.Awaits (i - (r.temps + r.given))
+      (omega (arith, long Answered r.answered)))
 
   pub at_depth : (i : ℕ) → i ≡ r.temps + r.given + r.answered → slot.Depth ≡ get_or (row_slots r) i slot.Awaits
   at_depth i is =
@@ -89,13 +108,18 @@ module _ (r : Row) where
 
 -- a row and its point
 
-pub row_there : (x : Exchange) (t : FlowTable) (q : ℕ) (r : Row) → IsExchange x → IsFlowTable x t → slice_get t.rows q ≡ Some r → (s : Slot) → Contains (row_slots r) s → HasSlot x q s
+pub row_there : (x : Exchange) (t : FlowTable) (q : ℕ) (r : Row) → IsExchange x → IsFlowTable x t
+    → slice_get t.rows q ≡ Some r → (s : Slot) → Contains (row_slots r) s → HasSlot x q s
 row_there x t q r kept table there s c = ((some_slots x t q r (row_slots r) kept table there refl).exact s).0 c
 
-pub point_filled : (x : Exchange) (t : FlowTable) (e p : ℕ) (how : Passing) (q : ℕ) (r : Row) (k new : BitRows) (grown : Bool) → IsExchange x → IsFlowTable x t → slice_get t.rows q ≡ Some r → FillsSlots x e p how q (row_slots r) k grown new → FillsPoint x e p how q k grown new
-point_filled x t e p how q r k new grown kept table there fills = record { slots = row_slots r; all = some_slots x t q r (row_slots r) kept table there refl; fills = fills }
+pub point_filled : (x : Exchange) (t : FlowTable) (e p : ℕ) (how : Passing) (q : ℕ) (r : Row) (k new : BitRows)
+    (grown : Bool) → IsExchange x → IsFlowTable x t → slice_get t.rows q ≡ Some r
+    → FillsSlots x e p how q (row_slots r) k grown new → FillsPoint x e p how q k grown new
+point_filled x t e p how q r k new grown kept table there fills = record
+    { slots = row_slots r; all = some_slots x t q r (row_slots r) kept table there refl; fills = fills }
 
-pub none_filled : (x : Exchange) (t : FlowTable) (e p : ℕ) (how : Passing) (q : ℕ) (k : BitRows) → IsFlowTable x t → length t.rows ≤ q → FillsPoint x e p how q k false k
+pub none_filled : (x : Exchange) (t : FlowTable) (e p : ℕ) (how : Passing) (q : ℕ) (k : BitRows) → IsFlowTable x t
+    → length t.rows ≤ q → FillsPoint x e p how q k false k
 none_filled x t e p how q k table past = record {
   slots = [];
   all = no_slots x t q [] table past refl;

@@ -22,8 +22,8 @@ use flow_table::FlowTable;
 use plex_num::{Memory, Seq};
 use std::alloc::Global;
 
-/// What the least facts of entries are found with. It is made once for an exchange, so that each entry takes the time of its own
-/// facts and of the flows between them.
+/// What the least facts of entries are found with. It is made once for an exchange, so that each
+/// entry takes the time of its own facts and of the flows between them.
 pub struct Analyser {
     answers: AnswerTable,
     order: Seq<Place>,
@@ -52,8 +52,9 @@ impl Analyser {
         })
     }
 
-    /// Learns the least facts of an entry, in place of what it has learned before. Where there is a bound, `most`, and more slots than
-    /// that were looked at, it is `Over`, and nothing of use is learned. After `Memory` the analyser is of no more use.
+    /// Learns the least facts of an entry, in place of what it has learned before. Where there is a
+    /// bound, `most`, and more slots than that were looked at, it is `Over`, and nothing of use is
+    /// learned. After `Memory` the analyser is of no more use.
     pub fn learn(
         &mut self,
         alloc: Global,
@@ -108,8 +109,8 @@ impl Analyser {
     }
 }
 
-/// The least facts of one entry of an exchange, of which this is the table, in order. For several entries an `Analyser` is made
-/// once.
+/// The least facts of one entry of an exchange, of which this is the table, in order. For several
+/// entries an `Analyser` is made once.
 pub fn facts_of(
     alloc: Global,
     exchange: &Exchange,

@@ -10,7 +10,8 @@ ghost use Rattle.fact_flows.specs.Flows.{FlowsTo, OneGives, WayGives};
 ghost use Rattle.fact_rows.specs.Known.{Knows, slots_of};
 ghost use Rattle.least_facts.specs.Giving.{IsOwnLeast};
 ghost use Rattle.answer_table.specs.Answers.{IsFact, answer_way};
-ghost use Rattle.least_facts.specs.Growing.{AreFound, HandedFrom, IsHandedBy, IsVisited, Searches, WaySends, handing_of, search_of, without};
+ghost use Rattle.least_facts.specs.Growing.{AreFound, HandedFrom, IsHandedBy, IsVisited, Searches};
+ghost use Rattle.least_facts.specs.Growing.{WaySends, handing_of, search_of, without};
 ghost use Rattle.least_facts.specs.Looks.{FindsWithin, IsOver};
 ghost use Rattle.least_facts.specs.Marks.{marks_of};
 ghost use Rattle.least_facts.specs.Settings.{IsGoodIn, IsSetting, StandsIn, WentIn};
@@ -27,8 +28,9 @@ use flow_table::{Ends, FlowTable, KnownFacts, Way, is_guarded};
 use plex_num::{Memory, Seq};
 use std::alloc::Global;
 
-/// Finds the least facts of an entry, so that the rows know these and no others. Where there is a bound, `most`, and more slots than that
-/// were looked at, it is `Over`, and the rows know some of them.
+/// Finds the least facts of an entry, so that the rows know these and no others. Where there is a
+/// bound, `most`, and more slots than that were looked at, it is `Over`, and the rows know some of
+/// them.
 pub(crate) fn find(
     setting: &Setting<'_>,
     most: Option<usize>,
@@ -123,7 +125,8 @@ fn add(
     Ok(())
 }
 
-/// Sends on what stands before a point, which was marked; how many slots were looked at, and one more.
+/// Sends on what stands before a point, which was marked; how many slots were looked at, and one
+/// more.
 fn visit(
     setting: &Setting<'_>,
     point: u32,
@@ -152,7 +155,8 @@ fn visit(
     }
 }
 
-/// Sends on what stands before a point that is reached on these ways; how many slots were looked at.
+/// Sends on what stands before a point that is reached on these ways; how many slots were looked
+/// at.
 fn send_ways(
     setting: &Setting<'_>,
     point: u32,
@@ -177,8 +181,8 @@ fn send_ways(
     Ok(looked)
 }
 
-/// Sends on what stands before a point that is reached on a way, an answer to the RETRIEVE of it that was reached first; how many slots
-/// were looked at.
+/// Sends on what stands before a point that is reached on a way, an answer to the RETRIEVE of it
+/// that was reached first; how many slots were looked at.
 fn send(
     setting: &Setting<'_>,
     point: u32,
@@ -274,8 +278,8 @@ fn flow_all(
     Ok(looked)
 }
 
-/// Sends what stands before a point to another one, and marks that where something is new, at the end of all where it is late; how many slots
-/// were looked at, and one more.
+/// Sends what stands before a point to another one, and marks that where something is new, at the
+/// end of all where it is late; how many slots were looked at, and one more.
 fn flow(
     setting: &Setting<'_>,
     from: u32,
@@ -316,8 +320,8 @@ fn slots_before(table: &FlowTable, point: u32) -> usize {
     }
 }
 
-/// Hands out what has come to a RETRIEVE, where it is the first of its answer, which has so many values, to the others that are reached; how
-/// many slots were looked at.
+/// Hands out what has come to a RETRIEVE, where it is the first of its answer, which has so many
+/// values, to the others that are reached; how many slots were looked at.
 fn hand_out(
     setting: &Setting<'_>,
     point: u32,

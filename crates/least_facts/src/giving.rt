@@ -22,7 +22,8 @@ use flow_table::{Row, source_over, values_from};
 use plex_num::Memory;
 use std::alloc::Global;
 
-/// Gives all slots before a point what comes over a flow from another one; true exactly where a value is new.
+/// Gives all slots before a point what comes over a flow from another one; true exactly where a
+/// value is new.
 #[tactic(auto, using(crate::proofs::Placing::row_there, crate::proofs::Placing::point_filled, crate::proofs::Placing::none_filled))]
 pub(crate) fn give_point(
     setting: &Setting<'_>,
@@ -47,7 +48,8 @@ pub(crate) fn give_point(
     }
 }
 
-/// Gives the slots that a row tells what comes over a flow to its point; true exactly where a value is new.
+/// Gives the slots that a row tells what comes over a flow to its point; true exactly where a value
+/// is new.
 fn give_slots(
     setting: &Setting<'_>,
     from: u32,
@@ -105,7 +107,8 @@ fn slot_at(row: &Row, i: usize) -> Slot
     }
 }
 
-/// Gives a slot the values that come from a source before a point; true exactly where one of them is new.
+/// Gives a slot the values that come from a source before a point; true exactly where one of them
+/// is new.
 fn give(
     alloc: Global,
     entry: u32,

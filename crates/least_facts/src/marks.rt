@@ -1,8 +1,10 @@
 // The points that are to be looked at, and the RETRIEVEs that answers come to first.
-ghost use Rattle.std.specs.Prelude.{◌≡◌, ◌<◌, ◌^◌, [], length, map, replicate, slice_get, slice_set, IfOk, IsTrue, None, OnOk, Some};
+ghost use Rattle.std.specs.Prelude.{◌≡◌, ◌<◌, ◌^◌, [], length, map, replicate, slice_get};
+ghost use Rattle.std.specs.Prelude.{slice_set, IfOk, IsTrue, None, OnOk, Some};
 ghost use Rattle.std.specs.List.{Contains};
 ghost use Rattle.answer_table.specs.Answers.{ReturnsOf, awaited_at, known_answer};
-ghost use Rattle.least_facts.specs.Marks.{IsNoted, IsThis, Marks, Reaches, Settles, Takes, marks_of, most_returns, point_in};
+ghost use Rattle.least_facts.specs.Marks.{IsNoted, IsThis, Marks, Reaches, Settles, Takes};
+ghost use Rattle.least_facts.specs.Marks.{marks_of, most_returns, point_in};
 
 use crate::order::Place;
 use crate::setting::Setting;
@@ -16,8 +18,8 @@ use std::collections::BTreeSet;
 /// How many values each part of a mark has.
 const PART: u128 = 4_294_967_296;
 
-/// When a point is looked at: with its component, in one of the sweeps through that, counted from 0, and there at its seat. Even sweeps go
-/// up, from lower seats to higher ones, and odd ones down.
+/// When a point is looked at: with its component, in one of the sweeps through that, counted from
+/// 0, and there at its seat. Even sweeps go up, from lower seats to higher ones, and odd ones down.
 #[derive(Clone, Copy)]
 pub struct Turn {
     pub component: u32,
@@ -32,9 +34,11 @@ const LAST: Turn = Turn {
     seat: 0,
 };
 
-/// The points that are to be looked at, and for each answer the RETRIEVE of it that was reached first.
+/// The points that are to be looked at, and for each answer the RETRIEVE of it that was reached
+/// first.
 pub struct Marked {
-    /// Of each point that is to be looked at its turn, as a number that is lower where it comes before, and in the lowest part the point.
+    /// Of each point that is to be looked at its turn, as a number that is lower where it comes
+    /// before, and in the lowest part the point.
     pub marks: BTreeSet<u128>,
     /// The turn of the point that was taken last.
     pub at: Turn,
@@ -142,8 +146,9 @@ fn place_of(order: &Seq<Place>, point: u32) -> Place {
     }
 }
 
-/// When a point is looked at that is marked while the search is at this turn: in the same sweep where the point still lies ahead in it, else
-/// in the next one; in another component in the first one.
+/// When a point is looked at that is marked while the search is at this turn: in the same sweep
+/// where the point still lies ahead in it, else in the next one; in another component in the first
+/// one.
 fn turn_after(at: Turn, place: Place) -> Turn {
     let Place { component, seat } = place;
     let sweep = if component != at.component {
@@ -243,8 +248,9 @@ fn put_first(firsts: &mut Vec<Option<u32>>, i: usize, point: u32)
     firsts[i] = Some(point);
 }
 
-/// Notes that a point is reached. The RETRIEVE of an answer that is reached first has all RETURNs of the answer looked at; where another one
-/// is reached, the first is looked at again, to hand out what it has.
+/// Notes that a point is reached. The RETRIEVE of an answer that is reached first has all RETURNs
+/// of the answer looked at; where another one is reached, the first is looked at again, to hand out
+/// what it has.
 #[tactic(auto, using(crate::proofs::Marking::reaches_none, crate::proofs::Marking::reaches_again))]
 fn reach(
     answers: &AnswerTable,
@@ -295,7 +301,8 @@ fn open(
     Ok(())
 }
 
-/// Whether a point needs no note where it comes to be reached: it is no RETRIEVE, or is reached already.
+/// Whether a point needs no note where it comes to be reached: it is no RETRIEVE, or is reached
+/// already.
 #[tactic(auto, using(crate::proofs::Marking::noted_plain, crate::proofs::Marking::noted_reached))]
 pub(crate) fn is_noted(setting: &Setting<'_>, rows: &FactRows, point: u32) -> bool
     ensures { IsTrue result
@@ -307,8 +314,8 @@ pub(crate) fn is_noted(setting: &Setting<'_>, rows: &FactRows, point: u32) -> bo
     }
 }
 
-/// What came to a point: whether something is new there, whether it needed no note before, and whether it is to be looked at after all
-/// other points.
+/// What came to a point: whether something is new there, whether it needed no note before, and
+/// whether it is to be looked at after all other points.
 #[derive(Clone, Copy)]
 pub struct Change {
     pub point: u32,
@@ -317,8 +324,9 @@ pub struct Change {
     pub late: bool,
 }
 
-/// Settles a point at which something is new, unless nothing has grown: it is marked, at the end of all where it is late, and where it is a
-/// RETRIEVE that was not reached before, but is now, that is noted.
+/// Settles a point at which something is new, unless nothing has grown: it is marked, at the end of
+/// all where it is late, and where it is a RETRIEVE that was not reached before, but is now, that
+/// is noted.
 #[tactic(auto, using(crate::proofs::Marking::settles_same, crate::proofs::Marking::settles_again, crate::proofs::Marking::settles_unreached, crate::proofs::Marking::settles_reached))]
 pub(crate) fn settle(
     setting: &Setting<'_>,

@@ -1,23 +1,26 @@
 // The order in which points are looked at.
 //
-// What flows lead to from each other, round and round, is one component of the graph of ways. Components come one after the other, each
-// before those to which it leads, so a caller before what it calls; inside a component a point comes before those to which it leads,
-// but for ways that lead back. What answers flow to is left out. So a point is looked at when nothing before it can bring something
-// new, and the points of a loop again and again, in sweeps, until the loop rests. The order costs or saves time alone: nothing is told
-// of it.
+// What flows lead to from each other, round and round, is one component of the graph of ways.
+// Components come one after the other, each before those to which it leads, so a caller before what
+// it calls; inside a component a point comes before those to which it leads, but for ways that lead
+// back. What answers flow to is left out. So a point is looked at when nothing before it can bring
+// something new, and the points of a loop again and again, in sweeps, until the loop rests. The
+// order costs or saves time alone: nothing is told of it.
 use flow_table::{Ends, FlowTable};
 use plex_num::{Memory, Seq};
 use std::alloc::Global;
 
-/// A point that a search goes on from, and how many ends of its ways are left, from the last one on.
+/// A point that a search goes on from, and how many ends of its ways are left, from the last one
+/// on.
 #[derive(Clone, Copy)]
 struct Step {
     point: u32,
     left: u32,
 }
 
-/// How far the search is with a point: 0 where it has not come there, else when it came, from 1; when it came to the earliest point to
-/// which it was led back from there; when it left the point; and whether its component is still open.
+/// How far the search is with a point: 0 where it has not come there, else when it came, from 1;
+/// when it came to the earliest point to which it was led back from there; when it left the point;
+/// and whether its component is still open.
 #[derive(Clone, Copy)]
 struct Visit {
     came: u32,
@@ -26,8 +29,8 @@ struct Visit {
     open: bool,
 }
 
-/// Where a point stands, from the last one on: its component, in the order in which they were closed; when the search left it; and the
-/// point.
+/// Where a point stands, from the last one on: its component, in the order in which they were
+/// closed; when the search left it; and the point.
 #[derive(Clone, Copy, PartialEq, Eq, PartialOrd, Ord)]
 struct Rank {
     component: u32,
@@ -35,7 +38,8 @@ struct Rank {
     point: u32,
 }
 
-/// Where a point stands in the order: its component, lowest first, and its seat, which lies above those of the points before it.
+/// Where a point stands in the order: its component, lowest first, and its seat, which lies above
+/// those of the points before it.
 #[derive(Clone, Copy)]
 pub struct Place {
     pub component: u32,
@@ -88,7 +92,8 @@ fn blank(alloc: Global, count: usize) -> Result<Vec<Visit>, Memory> {
     }
 }
 
-/// The places of all points in the order: the component that was left last comes first, and in it the point that was left last.
+/// The places of all points in the order: the component that was left last comes first, and in it
+/// the point that was left last.
 fn placed(alloc: Global, count: usize, search: Search) -> Result<Seq<Place>, Memory> {
     let Search {
         ranks,

@@ -6,8 +6,8 @@ use flow_table::FlowTable;
 use plex_num::Seq;
 use std::alloc::Global;
 
-/// What a search for the least facts of an entry looks things up in: the exchange with its table and its answers, and the place of each
-/// point in the order in which points are looked at.
+/// What a search for the least facts of an entry looks things up in: the exchange with its table
+/// and its answers, and the place of each point in the order in which points are looked at.
 #[derive(Clone, Copy)]
 pub struct Setting<'a> {
     pub alloc: Global,

@@ -1,11 +1,17 @@
 -- What the parts of a line say of its form.
-use Rattle.std.proofs.Common.{◌≡◌, ◌≢◌, ℕ, ◌<◌, ◌≤◌, ◌^◌, Bool, true, List, [], ◌∷◌, ◌++◌, length, map, Option, Some, None, Result, Ok, Err, codes, decimal, refl, sym, ap, ◌∙◌, arith, ◌⊎◌, inl, inr}
+use Rattle.std.proofs.Common.{◌≡◌, ◌≢◌, ℕ, ◌<◌, ◌≤◌, ◌^◌, Bool, true, List, [], ◌∷◌, ◌++◌, length}
+use Rattle.std.proofs.Common.{map, Option, Some, None, Result, Ok, Err, codes, decimal, refl, sym}
+use Rattle.std.proofs.Common.{ap, ◌∙◌, arith, ◌⊎◌, inl, inr}
 use Rattle.std.specs.Char.{is_ascii_uppercase}
 use Rattle.std.specs.List.{AllByRecursion, flat_map, list_all}
 use Rattle.std.proofs.lemmas.Bool.{and_from, and_parts}
 use Rattle.std.proofs.lemmas.List.{length-map}
 use Rattle.machine_code.specs.declared.op.Op.{Op}
-use Rattle.machine_code.specs.declared.op.Op.TheVariants.{Stmt, Ldi, Ldt, Stt, Lde, Lda, Add, Sub, Mul, Div, Rem, Eq, Ne, Lt, Le, Gt, Ge, And, Or, Jmp, Jz, Ldw, Stw, Ckw, Ckp, Own, Ldx, Stx, Ckf, Chn, Unc, Arg, Snd, Dir, Call, Ret, Trf, End}
+use Rattle.machine_code.specs.declared.op.Op.TheVariants.{Stmt, Ldi, Ldt, Stt, Lde, Lda, Add, Sub}
+use Rattle.machine_code.specs.declared.op.Op.TheVariants.{Mul, Div, Rem, Eq, Ne, Lt, Le, Gt, Ge}
+use Rattle.machine_code.specs.declared.op.Op.TheVariants.{And, Or, Jmp, Jz, Ldw, Stw, Ckw, Ckp, Own}
+use Rattle.machine_code.specs.declared.op.Op.TheVariants.{Ldx, Stx, Ckf, Chn, Unc, Arg, Snd, Dir}
+use Rattle.machine_code.specs.declared.op.Op.TheVariants.{Call, Ret, Trf, End}
 use Rattle.machine_code.specs.Operands.{OpFits, IsNumber}
 use Rattle.plex_num.specs.Number.{number_of}
 use Rattle.listing.specs.declared.fault.LineFault.{LineFault}
@@ -19,7 +25,8 @@ use Rattle.listing.specs.Parts.{AreNoOperands, AreOperands, AreParts}
 use Rattle.listing.specs.Statements.{HasNoForm, IsAlike, IsNamed, ReadsParts, ReadsStatement}
 use Rattle.listing.proofs.Words.{HasNo-letters, spaced_starts, words_once}
 use Rattle.text_lines.proofs.Cuts.{cut_once}
-use Rattle.text_lines.proofs.Numerals.{decimal-number_of, decimals, is_numeral-decimal, number_of-decimal}
+use Rattle.text_lines.proofs.Numerals.{decimal-number_of, decimals, is_numeral-decimal}
+use Rattle.text_lines.proofs.Numerals.{number_of-decimal}
 use Rattle.text_lines.specs.Numerals.{is_numeral}
 use Rattle.text_lines.specs.Parts.{HasNo, StartsWith}
 
@@ -74,11 +81,13 @@ operands_fit End fit = tt
 
 pub numerals-decimal : (ns : List ℕ) → AreNumbers ns → list_all is_numeral (map decimal ns) ≡ true
 numerals-decimal [] small = refl
-numerals-decimal (n ∷ ns) small = and_from (is_numeral (decimal n)) (list_all is_numeral (map decimal ns)) (is_numeral-decimal n (omega (arith, small.0))) (numerals-decimal ns small.1)
+numerals-decimal (n ∷ ns) small = and_from (is_numeral (decimal n)) (list_all is_numeral (map decimal ns))
+    (is_numeral-decimal n (omega (arith, small.0))) (numerals-decimal ns small.1)
 
 numbers-decimal : (ns : List ℕ) → AreNumbers ns → map number_of (map decimal ns) ≡ map (λ n. Some n) ns
 numbers-decimal [] small = refl
-numbers-decimal (n ∷ ns) small = ap (λ (o : Option ℕ). o ∷ map number_of (map decimal ns)) (number_of-decimal n small.0) ∙ ap (λ (os : List (Option ℕ)). Some n ∷ os) (numbers-decimal ns small.1)
+numbers-decimal (n ∷ ns) small = ap (λ (o : Option ℕ). o ∷ map number_of (map decimal ns)) (number_of-decimal n small.0)
+    ∙ ap (λ (os : List (Option ℕ)). Some n ∷ os) (numbers-decimal ns small.1)
 
 -- an instruction's line has the form of one
 pub HasOpForm-line : (line : List ℕ) → IsOpLine line → HasOpForm line
@@ -96,7 +105,9 @@ unfolding entry_line
 HasEntryForm-line i line is = record { word = decimal is.address; numeral = is_numeral-decimal is.address (omega (arith, is.fits)); so = is.so }
 
 -- a line has one name and one list of words
-pub parts_once : (name other : List ℕ) (words more : List (List ℕ)) → HasNo 32 name → HasNo 32 other → list_all is_numeral words ≡ true → list_all is_numeral more ≡ true → spoken name words ≡ spoken other more → (name ≡ other) × (words ≡ more)
+pub parts_once : (name other : List ℕ) (words more : List (List ℕ)) → HasNo 32 name → HasNo 32 other
+    → list_all is_numeral words ≡ true → list_all is_numeral more ≡ true → spoken name words ≡ spoken other more
+    → (name ≡ other) × (words ≡ more)
 parts_once name other words more apart too numerals those e =
     let cut = cut_once 32 name other (flat_map spaced words) (flat_map spaced more) apart too (spaced_starts words) (spaced_starts more) e in
     (cut.0, words_once words more numerals those cut.1)
@@ -164,7 +175,8 @@ unfolding op_line
 named_of_parts line name os p is =
     let ns = (written is.op).operands in
     let small = operands_fit is.op is.fits in
-    let once = parts_once name (written is.op).name p.words (map decimal ns) p.apart (name_apart is.op) p.numerals (numerals-decimal ns small) (sym p.so ∙ is.so) in
+    let once = parts_once name (written is.op).name p.words (map decimal ns) p.apart (name_apart is.op) p.numerals
+    (numerals-decimal ns small) (sym p.so ∙ is.so) in
     record { named = sym once.0; operands = p.values ∙ ap (map number_of) once.1 ∙ numbers-decimal ns small; fits = is.fits }
 
 line_of_named : (line name : List ℕ) (os : List (Option ℕ)) (op : Op) → AreParts line name os → IsNamed name os op → line ≡ op_line op
@@ -184,15 +196,20 @@ form_of_alike line name os op p alike = record {
 
 -- the form of an entry, from its parts
 entry_numerals : (i : ℕ) (word : List ℕ) → i < 2 ^ 32 → is_numeral word ≡ true → list_all is_numeral (decimal i ∷ word ∷ []) ≡ true
-entry_numerals i word low numeral = and_from (is_numeral (decimal i)) (list_all is_numeral (word ∷ [])) (is_numeral-decimal i (omega arith)) (and_from (is_numeral word) true numeral refl)
+entry_numerals i word low numeral = and_from (is_numeral (decimal i)) (list_all is_numeral (word ∷ []))
+    (is_numeral-decimal i (omega arith)) (and_from (is_numeral word) true numeral refl)
 
-entry_of_parts : (i : ℕ) (line name : List ℕ) (os : List (Option ℕ)) → i < 2 ^ 32 → AreParts line name os → (form : HasEntryForm i line) → (name ≡ codes "ENTRY") × (os ≡ Some i ∷ number_of form.word ∷ [])
+entry_of_parts : (i : ℕ) (line name : List ℕ) (os : List (Option ℕ)) → i < 2 ^ 32 → AreParts line name os
+    → (form : HasEntryForm i line) → (name ≡ codes "ENTRY") × (os ≡ Some i ∷ number_of form.word ∷ [])
 entry_of_parts i line name os low p form =
-    let once = parts_once name (codes "ENTRY") p.words (decimal i ∷ form.word ∷ []) p.apart entry_apart p.numerals (entry_numerals i form.word low form.numeral) (sym p.so ∙ form.so) in
+    let once = parts_once name (codes "ENTRY") p.words (decimal i ∷ form.word ∷ []) p.apart entry_apart p.numerals
+    (entry_numerals i form.word low form.numeral) (sym p.so ∙ form.so) in
     (once.0, p.values ∙ ap (map number_of) once.1 ∙ ap (λ (o : Option ℕ). o ∷ number_of form.word ∷ []) (number_of-decimal i low))
 
 -- two words that say these numbers
-two_words : (words : List (List ℕ)) (i : ℕ) (o : Option ℕ) → list_all is_numeral words ≡ true → map number_of words ≡ Some i ∷ o ∷ [] → (word : List ℕ) × (words ≡ decimal i ∷ word ∷ []) × (is_numeral word ≡ true) × (number_of word ≡ o)
+two_words : (words : List (List ℕ)) (i : ℕ) (o : Option ℕ) → list_all is_numeral words ≡ true
+    → map number_of words ≡ Some i ∷ o ∷ [] → (word : List ℕ) × (words ≡ decimal i ∷ word ∷ [])
+    × (is_numeral word ≡ true) × (number_of word ≡ o)
 two_words [] i o numerals e = cc
 two_words (w ∷ []) i o numerals e = cc
 two_words (w ∷ v ∷ []) i o numerals e =
@@ -202,26 +219,32 @@ two_words (w ∷ v ∷ []) i o numerals e =
     (v, ap (λ (u : List ℕ). u ∷ v ∷ []) (decimal-number_of w i parts.0 first), (and_parts (is_numeral v) true parts.1).0, second)
 two_words (w ∷ v ∷ u ∷ more) i o numerals e = cc
 
-form_of_entry : (i : ℕ) (line name : List ℕ) (os : List (Option ℕ)) (o : Option ℕ) → AreParts line name os → name ≡ codes "ENTRY" → os ≡ Some i ∷ o ∷ [] → HasEntryForm i line
+form_of_entry : (i : ℕ) (line name : List ℕ) (os : List (Option ℕ)) (o : Option ℕ) → AreParts line name os
+    → name ≡ codes "ENTRY" → os ≡ Some i ∷ o ∷ [] → HasEntryForm i line
 form_of_entry i line name os o p named so =
     let two = two_words p.words i o p.numerals (sym p.values ∙ so) in
     record { word = two.0; numeral = two.2; so = p.so ∙ ap (λ (n : List ℕ). spoken n p.words) named ∙ ap (spoken (codes "ENTRY")) two.1 }
 
-line_of_entry : (i : ℕ) (line name : List ℕ) (os : List (Option ℕ)) (address : ℕ) → AreParts line name os → name ≡ codes "ENTRY" → os ≡ Some i ∷ Some address ∷ [] → line ≡ entry_line i address
+line_of_entry : (i : ℕ) (line name : List ℕ) (os : List (Option ℕ)) (address : ℕ) → AreParts line name os
+    → name ≡ codes "ENTRY" → os ≡ Some i ∷ Some address ∷ [] → line ≡ entry_line i address
 unfolding entry_line
 line_of_entry i line name os address p named so =
     let words : p.words ≡ map decimal (i ∷ address ∷ []) = decimals p.words (i ∷ address ∷ []) p.numerals (sym p.values ∙ so) in
     p.so ∙ ap (λ (n : List ℕ). spoken n p.words) named ∙ ap (spoken (codes "ENTRY")) words
 
-address_of_entry : (i : ℕ) (line name : List ℕ) (os : List (Option ℕ)) → i < 2 ^ 32 → AreParts line name os → (is : IsEntryLine i line) → (name ≡ codes "ENTRY") × (os ≡ Some i ∷ Some is.address ∷ [])
+address_of_entry : (i : ℕ) (line name : List ℕ) (os : List (Option ℕ)) → i < 2 ^ 32 → AreParts line name os
+    → (is : IsEntryLine i line) → (name ≡ codes "ENTRY") × (os ≡ Some i ∷ Some is.address ∷ [])
 unfolding entry_line HasEntryForm-line
 address_of_entry i line name os low p is =
     let e = entry_of_parts i line name os low p (HasEntryForm-line i line is) in
     (e.0, e.1 ∙ ap (λ (o : Option ℕ). Some i ∷ o ∷ []) (number_of-decimal is.address is.fits))
 
 -- a line with parts is read by them
-pub line_read : (i : ℕ) (at_entries : Bool) (line name : List ℕ) (os : List (Option ℕ)) (r : Result Statement LineFault) → i < 2 ^ 32 → line ≢ last_line → AreParts line name os → ReadsParts i at_entries name os r → ReadsStatement i at_entries line r
-line_read i at_entries line name os (Ok (Entry address)) low other p reads = (reads.here, reads.fits, line_of_entry i line name os address p reads.named reads.operands)
+pub line_read : (i : ℕ) (at_entries : Bool) (line name : List ℕ) (os : List (Option ℕ)) (r : Result Statement LineFault)
+    → i < 2 ^ 32 → line ≢ last_line → AreParts line name os → ReadsParts i at_entries name os r
+    → ReadsStatement i at_entries line r
+line_read i at_entries line name os (Ok (Entry address)) low other p reads =
+    (reads.here, reads.fits, line_of_entry i line name os address p reads.named reads.operands)
 line_read i at_entries line name os (Ok (Instruction op)) low other p reads = (reads.fits, line_of_named line name os op p reads)
 line_read i at_entries line name os (Err Form) low other p reads = record {
   entry = λ here form. (let e = entry_of_parts i line name os low p form in reads.entry (number_of form.word) here e.0 e.1);
@@ -235,7 +258,8 @@ line_read i at_entries line name os (Err Operand) low other p reads = record {
   last = other;
 }
   where
-    formed : ((at_entries ≡ true) × (name ≡ codes "ENTRY") × (os ≡ Some i ∷ None ∷ [])) ⊎ ((op : Op) × IsAlike name os op) → ((at_entries ≡ true) × HasEntryForm i line) ⊎ HasOpForm line
+    formed : ((at_entries ≡ true) × (name ≡ codes "ENTRY") × (os ≡ Some i ∷ None ∷ []))
+        ⊎ ((op : Op) × IsAlike name os op) → ((at_entries ≡ true) × HasEntryForm i line) ⊎ HasOpForm line
     formed (inl e) = inl (e.0, form_of_entry i line name os None p e.1 e.2)
     formed (inr alike) = inr (form_of_alike line name os alike.0 p alike.1)
 
@@ -291,12 +315,18 @@ few_operands (Ret m) = omega arith
 few_operands (Trf a n) = omega arith
 few_operands End = omega arith
 
-no_words : (line name other tail : List ℕ) (words : List (List ℕ)) → HasNo 32 name → HasNo 32 other → StartsWith 32 tail → line ≡ name ++ tail → line ≡ spoken other words → tail ≡ flat_map spaced words
-no_words line name other tail words apart too starts joined so = (cut_once 32 name other tail (flat_map spaced words) apart too starts (spaced_starts words) (sym joined ∙ so)).1
+no_words : (line name other tail : List ℕ) (words : List (List ℕ)) → HasNo 32 name → HasNo 32 other → StartsWith 32 tail
+    → line ≡ name ++ tail → line ≡ spoken other words → tail ≡ flat_map spaced words
+no_words line name other tail words apart too starts joined
+    so = (cut_once 32 name other tail (flat_map spaced words) apart too starts (spaced_starts words)
+    (sym joined ∙ so)).1
 
-pub line_strange : (i : ℕ) (at_entries : Bool) (line name tail : List ℕ) → i < 2 ^ 32 → line ≢ last_line → HasNo 32 name → StartsWith 32 tail → line ≡ name ++ tail → AreNoOperands tail → HasNoForm i at_entries line
+pub line_strange : (i : ℕ) (at_entries : Bool) (line name tail : List ℕ) → i < 2 ^ 32 → line ≢ last_line → HasNo 32 name
+    → StartsWith 32 tail → line ≡ name ++ tail → AreNoOperands tail → HasNoForm i at_entries line
 line_strange i at_entries line name tail low other apart starts joined none = record {
-  entry = λ here form. none (decimal i ∷ form.word ∷ []) (entry_numerals i form.word low form.numeral) (omega arith) (no_words line name (codes "ENTRY") tail (decimal i ∷ form.word ∷ []) apart entry_apart starts joined form.so);
-  op = λ form. none form.words form.numerals (omega (arith, form.as_many, few_operands form.op)) (no_words line name (written form.op).name tail form.words apart (name_apart form.op) starts joined form.so);
+  entry = λ here form. none (decimal i ∷ form.word ∷ []) (entry_numerals i form.word low form.numeral) (omega arith)
+      (no_words line name (codes "ENTRY") tail (decimal i ∷ form.word ∷ []) apart entry_apart starts joined form.so);
+  op = λ form. none form.words form.numerals (omega (arith, form.as_many, few_operands form.op))
+      (no_words line name (written form.op).name tail form.words apart (name_apart form.op) starts joined form.so);
   last = other;
 }

@@ -1,5 +1,7 @@
 -- The table of instructions: what each row says of the instruction that stands at it.
-use Rattle.std.proofs.Common.{◌≡◌, ℕ, ◌<◌, ◌≤◌, List, [], ◌∷◌, length, map, get_or, slice_get, Option, Some, None, unwrap_or, refl, sym, ap, subst, ◌∙◌, arith, decimal}
+use Rattle.std.proofs.Common.{◌≡◌, ℕ, ◌<◌, ◌≤◌, List, [], ◌∷◌, length, map, get_or, slice_get}
+use Rattle.std.proofs.Common.{Option, Some, None, unwrap_or, refl, sym, ap, subst, ◌∙◌, arith}
+use Rattle.std.proofs.Common.{decimal}
 use Rattle.std.specs.List.{range_with_len}
 use Rattle.std.proofs.lemmas.List.{get_or-map}
 use Rattle.std.proofs.lemmas.Option.{slice_get_past}
@@ -8,7 +10,11 @@ use Rattle.name_tables.proofs.Places.{found_has_name}
 use Rattle.name_tables.specs.Names.{operation_names}
 use Rattle.name_tables.specs.Rows.{place_of}
 use Rattle.machine_code.specs.declared.op.Op.{Op}
-use Rattle.machine_code.specs.declared.op.Op.TheVariants.{Stmt, Ldi, Ldt, Stt, Lde, Lda, Add, Sub, Mul, Div, Rem, Eq, Ne, Lt, Le, Gt, Ge, And, Or, Jmp, Jz, Ldw, Stw, Ckw, Ckp, Own, Ldx, Stx, Ckf, Chn, Unc, Arg, Snd, Dir, Call, Ret, Trf, End}
+use Rattle.machine_code.specs.declared.op.Op.TheVariants.{Stmt, Ldi, Ldt, Stt, Lde, Lda, Add, Sub}
+use Rattle.machine_code.specs.declared.op.Op.TheVariants.{Mul, Div, Rem, Eq, Ne, Lt, Le, Gt, Ge}
+use Rattle.machine_code.specs.declared.op.Op.TheVariants.{And, Or, Jmp, Jz, Ldw, Stw, Ckw, Ckp, Own}
+use Rattle.machine_code.specs.declared.op.Op.TheVariants.{Ldx, Stx, Ckf, Chn, Unc, Arg, Snd, Dir}
+use Rattle.machine_code.specs.declared.op.Op.TheVariants.{Call, Ret, Trf, End}
 use Rattle.machine_code.specs.Operands.{OpFits}
 use Rattle.listing.specs.Instructions.{written}
 use Rattle.listing.specs.Listing.{op_line, spoken}
@@ -295,7 +301,9 @@ row-made : (place : ℕ) (ns : List ℕ) → place < 38 → row (made place ns) 
 unfolding made made_all
 row-made place ns within =
     let counted : length (made_all ns) ≡ 38 = refl in
-    sym (get_or-map row (made_all ns) place End 0 (omega (arith, counted))) ∙ ap (λ (ks : List ℕ). get_or ks place 0) (rows_in_order ns) ∙ get_or-range_with_len 0 38 place 0 within ∙ (omega arith)
+    sym (get_or-map row (made_all ns) place End 0 (omega (arith, counted)))
+    ∙ ap (λ (ks : List ℕ). get_or ks place 0) (rows_in_order ns) ∙ get_or-range_with_len 0 38 place 0 within
+    ∙ (omega arith)
 
 -- an instruction has the name at its place
 pub name_at_place : (name : List ℕ) (place : ℕ) (op : Op) → place_of operation_names name ≡ Some place → row op ≡ place → (written op).name ≡ name
@@ -318,7 +326,8 @@ no_such_name name op none same =
 pub kinds_counted : (op : Op) (place : ℕ) → row op ≡ place → length (kinds_at place) ≡ length (written op).operands
 kinds_counted op place at = ap (λ (k : ℕ). length (kinds_at k)) (sym at) ∙ length-row op
 
-pub kinds_fit : (op : Op) (place : ℕ) (os : List (Option ℕ)) → row op ≡ place → OpFits op → os ≡ map (λ n. Some n) (written op).operands → AllFit (kinds_at place) os
+pub kinds_fit : (op : Op) (place : ℕ) (os : List (Option ℕ)) → row op ≡ place → OpFits op
+    → os ≡ map (λ n. Some n) (written op).operands → AllFit (kinds_at place) os
 kinds_fit op place os at fits so =
     subst (λ (k : ℕ). AllFit (kinds_at k) os) at (subst (λ (vs : List (Option ℕ)). AllFit (kinds_at (row op)) vs) (sym so) (fits_row op fits))
 

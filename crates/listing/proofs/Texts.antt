@@ -30,7 +30,8 @@ some_line b rest = at (nat_eq b 10) (lines_in rest)
     put [] = ([], [], refl)
     put (part ∷ parts) = (part, parts, refl)
 
-    at : (t : Bool) (parts : List (List ℕ)) → (line : List ℕ) × (lines : List (List ℕ)) × ((if t then (b ∷ []) ∷ parts else onto_first b parts) ≡ (b ∷ line) ∷ lines)
+    at : (t : Bool) (parts : List (List ℕ)) → (line : List ℕ) × (lines : List (List ℕ))
+        × ((if t then (b ∷ []) ∷ parts else onto_first b parts) ≡ (b ∷ line) ∷ lines)
     at true parts = ([], parts, refl)
     at false parts = put parts
 

@@ -1,5 +1,7 @@
 -- Numerals behind spaces.
-use Rattle.std.proofs.Common.{◌≡◌, ◌≢◌, ℕ, ◌+◌, ◌<◌, ◌≤◌, Bool, true, false, List, [], ◌∷◌, ◌++◌, length, map, Option, Some, None, refl, sym, ap, ◌∙◌, arith, append_assoc, append-nil, length-append}
+use Rattle.std.proofs.Common.{◌≡◌, ◌≢◌, ℕ, ◌+◌, ◌<◌, ◌≤◌, Bool, true, false, List, [], ◌∷◌, ◌++◌}
+use Rattle.std.proofs.Common.{length, map, Option, Some, None, refl, sym, ap, ◌∙◌, arith}
+use Rattle.std.proofs.Common.{append_assoc, append-nil, length-append}
 use Rattle.std.specs.Char.{is_ascii_digit, is_ascii_uppercase}
 use Rattle.std.specs.List.{flat_map, list_all}
 use Rattle.std.specs.Prelude.{if◌then◌else◌}
@@ -46,13 +48,16 @@ spaced_starts [] = tt
 spaced_starts (word ∷ words) = refl
 
 -- the first word is the one that stands in front
-pub first_word : (word after : List ℕ) (w : List ℕ) (ws : List (List ℕ)) → HasNo 32 word → StartsWith 32 after → HasNo 32 w → spaced word ++ after ≡ flat_map spaced (w ∷ ws) → (word ≡ w) × (after ≡ flat_map spaced ws)
+pub first_word : (word after : List ℕ) (w : List ℕ) (ws : List (List ℕ)) → HasNo 32 word → StartsWith 32 after
+    → HasNo 32 w → spaced word ++ after ≡ flat_map spaced (w ∷ ws) → (word ≡ w) × (after ≡ flat_map spaced ws)
 first_word word after w ws apart starts other e =
     let same : word ++ after ≡ w ++ flat_map spaced ws = cc in
     cut_once 32 word w after (flat_map spaced ws) apart other starts (spaced_starts ws) same
 
 -- numerals in front are the first of all words
-front_words : (seen : List (List ℕ)) (rest : List ℕ) (words : List (List ℕ)) → list_all is_numeral seen ≡ true → list_all is_numeral words ≡ true → StartsWith 32 rest → flat_map spaced seen ++ rest ≡ flat_map spaced words → (more : List (List ℕ)) × (words ≡ seen ++ more) × (rest ≡ flat_map spaced more)
+front_words : (seen : List (List ℕ)) (rest : List ℕ) (words : List (List ℕ)) → list_all is_numeral seen ≡ true
+    → list_all is_numeral words ≡ true → StartsWith 32 rest → flat_map spaced seen ++ rest ≡ flat_map spaced words
+    → (more : List (List ℕ)) × (words ≡ seen ++ more) × (rest ≡ flat_map spaced more)
 front_words [] rest words ns nw starts e = (words, refl, e)
 front_words (s ∷ seen) rest [] ns nw starts e = let no : ◌≡◌ {A = List ℕ} (32 ∷ (s ++ flat_map spaced seen) ++ rest) [] = e in cc
 front_words (s ∷ seen) rest (w ∷ words) ns nw starts e =
@@ -60,7 +65,8 @@ front_words (s ∷ seen) rest (w ∷ words) ns nw starts e =
     let those = and_parts (is_numeral w) (list_all is_numeral words) nw in
     let low : 32 < 48 = omega arith in
     let split : spaced s ++ (flat_map spaced seen ++ rest) ≡ flat_map spaced (w ∷ words) = sym (append_assoc (spaced s) (flat_map spaced seen) rest) ∙ e in
-    let cut = first_word s (flat_map spaced seen ++ rest) w words (HasNo-numeral 32 s low these.0) (joined_starts seen rest starts) (HasNo-numeral 32 w low those.0) split in
+    let cut = first_word s (flat_map spaced seen ++ rest) w words (HasNo-numeral 32 s low these.0)
+    (joined_starts seen rest starts) (HasNo-numeral 32 w low those.0) split in
     let more = front_words seen rest words these.1 those.1 starts cut.1 in
     (more.0, ap (λ ws. w ∷ ws) more.1 ∙ ap (λ v. v ∷ seen ++ more.0) (sym cut.0), more.2)
   where
@@ -73,7 +79,8 @@ nothing_left [] e = refl
 nothing_left (w ∷ words) e = let no : ◌≡◌ {A = List ℕ} [] (32 ∷ w ++ flat_map spaced words) = e in cc
 
 -- bytes are numerals behind spaces in one way
-pub words_once : (words more : List (List ℕ)) → list_all is_numeral words ≡ true → list_all is_numeral more ≡ true → flat_map spaced words ≡ flat_map spaced more → words ≡ more
+pub words_once : (words more : List (List ℕ)) → list_all is_numeral words ≡ true → list_all is_numeral more ≡ true
+    → flat_map spaced words ≡ flat_map spaced more → words ≡ more
 words_once words more numerals those e =
     let front = front_words words [] more numerals those tt (append-nil (flat_map spaced words) ∙ e) in
     sym (front.1 ∙ ap (λ ws. words ++ ws) (nothing_left front.0 front.2) ∙ append-nil words)
@@ -97,14 +104,22 @@ numeral_none : (b : Bool) (v : Option ℕ) → ◌≡◌ {A = Option (Option ℕ
 numeral_none true v e = cc
 numeral_none false v e = refl
 
-pub goes_more : (bytes rest word after : List ℕ) (operands more : List (Option ℕ)) (value : Option ℕ) → Goes bytes rest operands → IsNextWord rest word after → Some value ≡ (if is_numeral word then Some (number_of word) else None) → more ≡ operands ++ value ∷ [] → Goes bytes after more
+pub goes_more : (bytes rest word after : List ℕ) (operands more : List (Option ℕ)) (value : Option ℕ)
+    → Goes bytes rest operands → IsNextWord rest word after
+    → Some value ≡ (if is_numeral word then Some (number_of word) else None) → more ≡ operands ++ value ∷ []
+    → Goes bytes after more
 goes_more bytes rest word after operands more value g next read pushed =
     let n = numeral_some (is_numeral word) value (number_of word) read in
     record {
       words = g.words ++ word ∷ [];
-      numerals = list_all-append is_numeral g.words (word ∷ []) ∙ and_from (list_all is_numeral g.words) (list_all is_numeral (word ∷ [])) g.numerals (and_from (is_numeral word) true n.0 refl);
+      numerals = list_all-append is_numeral g.words (word ∷ [])
+          ∙ and_from (list_all is_numeral g.words) (list_all is_numeral (word ∷ [])) g.numerals
+          (and_from (is_numeral word) true n.0 refl);
       starts = next.starts;
-      so = g.so ∙ ap (λ r. flat_map spaced g.words ++ r) next.so ∙ sym (append_assoc (flat_map spaced g.words) (spaced word) after) ∙ ap (λ t. t ++ after) (ap (λ t. flat_map spaced g.words ++ t) (sym (append-nil (spaced word))) ∙ sym (flat_map-append spaced g.words (word ∷ [])));
+      so = g.so ∙ ap (λ r. flat_map spaced g.words ++ r) next.so
+          ∙ sym (append_assoc (flat_map spaced g.words) (spaced word) after)
+          ∙ ap (λ t. t ++ after) (ap (λ t. flat_map spaced g.words ++ t) (sym (append-nil (spaced word)))
+          ∙ sym (flat_map-append spaced g.words (word ∷ [])));
       values = pushed ∙ ap (λ os. os ++ value ∷ []) g.values ∙ ap (λ v. map number_of g.words ++ v ∷ []) n.1 ∙ sym (map-append number_of g.words (word ∷ []));
     }
 
@@ -117,7 +132,8 @@ goes_end bytes rest operands g none = record {
 }
 
 -- the words that are left are one or more
-some_left : (rest word after : List ℕ) (more : List (List ℕ)) → list_all is_numeral more ≡ true → IsNextWord rest word after → rest ≡ flat_map spaced more → (0 < length more) × (is_numeral word ≡ true)
+some_left : (rest word after : List ℕ) (more : List (List ℕ)) → list_all is_numeral more ≡ true
+    → IsNextWord rest word after → rest ≡ flat_map spaced more → (0 < length more) × (is_numeral word ≡ true)
 some_left rest word after [] n next e = let no : ◌≡◌ {A = List ℕ} (32 ∷ word ++ after) [] = sym next.so ∙ e in cc
 some_left rest word after (w ∷ ws) n next e =
     let parts = and_parts (is_numeral w) (list_all is_numeral ws) n in
@@ -125,7 +141,9 @@ some_left rest word after (w ∷ ws) n next e =
     let cut = first_word word after w ws next.apart next.starts (HasNo-numeral 32 w low parts.0) (sym next.so ∙ e) in
     (omega arith, ap is_numeral cut.0 ∙ parts.0)
 
-left_over : (bytes rest word after : List ℕ) (operands : List (Option ℕ)) (words : List (List ℕ)) (g : Goes bytes rest operands) → IsNextWord rest word after → list_all is_numeral words ≡ true → bytes ≡ flat_map spaced words → (length g.words < length words) × (is_numeral word ≡ true)
+left_over : (bytes rest word after : List ℕ) (operands : List (Option ℕ)) (words : List (List ℕ))
+    (g : Goes bytes rest operands) → IsNextWord rest word after → list_all is_numeral words ≡ true
+    → bytes ≡ flat_map spaced words → (length g.words < length words) × (is_numeral word ≡ true)
 left_over bytes rest word after operands words g next numerals so =
     let front = front_words g.words rest words g.numerals numerals g.starts (sym g.so ∙ so) in
     let both : list_all is_numeral (g.words ++ front.0) ≡ true = ap (list_all is_numeral) (sym front.1) ∙ numerals in
@@ -134,13 +152,16 @@ left_over bytes rest word after operands words g next numerals so =
     let sizes : length words ≡ length g.words + length front.0 = ap length front.1 ∙ length-append g.words front.0 in
     (omega (arith, sizes, some.0), some.1)
 
-pub goes_full : (bytes rest word after : List ℕ) (operands : List (Option ℕ)) → Goes bytes rest operands → IsNextWord rest word after → 4 ≤ length operands → AreNoOperands bytes
+pub goes_full : (bytes rest word after : List ℕ) (operands : List (Option ℕ)) → Goes bytes rest operands
+    → IsNextWord rest word after → 4 ≤ length operands → AreNoOperands bytes
 goes_full bytes rest word after operands g next full words numerals few so =
     let left = left_over bytes rest word after operands words g next numerals so in
     let seen : length operands ≡ length g.words = ap length g.values ∙ length-map g.words number_of in
     absurd (omega (arith, left.0, seen, full, few))
 
-pub goes_bad : (bytes rest word after : List ℕ) (operands : List (Option ℕ)) → Goes bytes rest operands → IsNextWord rest word after → ◌≡◌ {A = Option (Option ℕ)} None (if is_numeral word then Some (number_of word) else None) → AreNoOperands bytes
+pub goes_bad : (bytes rest word after : List ℕ) (operands : List (Option ℕ)) → Goes bytes rest operands
+    → IsNextWord rest word after → ◌≡◌ {A = Option (Option ℕ)} None
+    (if is_numeral word then Some (number_of word) else None) → AreNoOperands bytes
 goes_bad bytes rest word after operands g next read words numerals few so =
     let left = left_over bytes rest word after operands words g next numerals so in
     true≢false (sym left.1 ∙ numeral_none (is_numeral word) (number_of word) read)

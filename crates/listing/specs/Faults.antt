@@ -1,9 +1,10 @@
 -- The first faulty line of a text that is no listing.
 --
--- The lines of a text stand in a list, each with its LF, and behind them what follows the last LF, which is nothing in a text that is ended
--- well. So a text that breaks off, a last line without its LF and bytes after the last line are all at fault at a line, the one
--- that no listing has at its place: a line is the first faulty one where the lines before it begin some listing, and no
--- longer with it.
+-- The lines of a text stand in a list, each with its LF, and behind them what follows the last LF,
+-- which is nothing in a text that is ended well. So a text that breaks off, a last line without its
+-- LF and bytes after the last line are all at fault at a line, the one that no listing has at its
+-- place: a line is the first faulty one where the lines before it begin some listing, and no longer
+-- with it.
 use Rattle.std.specs.Prelude.{◌≡◌, ℕ, ◌-◌, List, [], ◌∷◌, ◌++◌, map, take, Result, Ok, Err}
 use Rattle.std.specs.List.{AllByRecursion}
 use Rattle.machine_code.specs.Coded.{Code}
@@ -33,7 +34,8 @@ pub record BeginForm (lines : List (List ℕ)) : Type 0 where
   pub named : AllByRecursion HasOpForm ops
   pub so : lines ++ rest ≡ whole (entries ++ ops)
 
--- the line l, from 1, is the first that is not of the form of a listing, and those before it are without fault
+-- the line l, from 1, is the first that is not of the form of a listing, and those before it are
+-- without fault
 pub record HasBadLine (text : List ℕ) (l : ℕ) : Type 0 where
   pub before : BeginListing (take (l - 1) (lines_in text))
   pub here : BeginForm (take l (lines_in text)) → ⊥

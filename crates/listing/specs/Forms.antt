@@ -1,7 +1,8 @@
 -- Which lines stand in a listing, and which have the form of one that does.
 --
--- A line has the form where its name is right and as many numerals stand behind it as the name wants. It stands in a listing where these
--- numerals are in their ranges too. A numeral may be of any length.
+-- A line has the form where its name is right and as many numerals stand behind it as the name
+-- wants. It stands in a listing where these numerals are in their ranges too. A numeral may be of
+-- any length.
 use Rattle.std.specs.Prelude.{◌≡◌, ℕ, ◌+◌, true, List, [], ◌∷◌, length, codes}
 use Rattle.std.specs.Fmt.{decimal}
 use Rattle.std.specs.List.{list_all}

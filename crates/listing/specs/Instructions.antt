@@ -1,7 +1,11 @@
 -- How each instruction is written: its name, and its operands in their order.
 use Rattle.std.specs.Prelude.{ℕ, List, [], ◌∷◌, codes}
 use Rattle.machine_code.specs.declared.op.Op.{Op}
-use Rattle.machine_code.specs.declared.op.Op.TheVariants.{Stmt, Ldi, Ldt, Stt, Lde, Lda, Add, Sub, Mul, Div, Rem, Eq, Ne, Lt, Le, Gt, Ge, And, Or, Jmp, Jz, Ldw, Stw, Ckw, Ckp, Own, Ldx, Stx, Ckf, Chn, Unc, Arg, Snd, Dir, Call, Ret, Trf, End}
+use Rattle.machine_code.specs.declared.op.Op.TheVariants.{Stmt, Ldi, Ldt, Stt, Lde, Lda, Add, Sub}
+use Rattle.machine_code.specs.declared.op.Op.TheVariants.{Mul, Div, Rem, Eq, Ne, Lt, Le, Gt, Ge}
+use Rattle.machine_code.specs.declared.op.Op.TheVariants.{And, Or, Jmp, Jz, Ldw, Stw, Ckw, Ckp, Own}
+use Rattle.machine_code.specs.declared.op.Op.TheVariants.{Ldx, Stx, Ckf, Chn, Unc, Arg, Snd, Dir}
+use Rattle.machine_code.specs.declared.op.Op.TheVariants.{Call, Ret, Trf, End}
 
 -- a name, and numbers after it
 pub record Written : Type 0 where

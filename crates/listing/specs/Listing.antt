@@ -1,7 +1,8 @@
 -- The text of code, as a function of the code.
 --
--- A text is a list of lines, each ended by LF. A line is a name and words after it, one space apart, and numbers are
--- written in decimal, which has no leading zero: so nothing is left to choose.
+-- A text is a list of lines, each ended by LF. A line is a name and words after it, one space
+-- apart, and numbers are written in decimal, which has no leading zero: so nothing is left to
+-- choose.
 use Rattle.std.specs.Prelude.{◌≡◌, ℕ, ◌+◌, ◌<◌, ◌^◌, List, [], ◌∷◌, ◌++◌, length, map, All, codes}
 use Rattle.std.specs.Fmt.{decimal}
 use Rattle.std.specs.List.{flat_map}
@@ -46,7 +47,8 @@ inner_lines code = entry_lines 0 code.entries ++ map op_line code.ops
 unfoldable pub code_text : Code → List ℕ
 code_text code = flat_map ended (first_line ∷ inner_lines code ++ last_line ∷ [])
 
--- code that a listing can tell: each operand and each address is in its range, and a number of the machine counts the entries
+-- code that a listing can tell: each operand and each address is in its range, and a number of the
+-- machine counts the entries
 pub record CodeFits (code : Code) : Type 0 where
   pub ops : All OpFits code.ops
   pub entries : All IsNumber code.entries

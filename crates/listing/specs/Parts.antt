@@ -12,7 +12,8 @@ pub record IsNextWord (bytes word after : List ℕ) : Type 0 where
   pub starts : StartsWith 32 after
   pub so : bytes ≡ spaced word ++ after
 
--- the bytes are numerals behind spaces, and operands are their values: none where one is not below 2^32
+-- the bytes are numerals behind spaces, and operands are their values: none where one is not below
+-- 2^32
 pub record AreOperands (bytes : List ℕ) (operands : List (Option ℕ)) : Type 0 where
   pub words : List (List ℕ)
   pub numerals : list_all is_numeral words ≡ true

@@ -1,9 +1,15 @@
 -- The rows of the table of instructions, by their places.
-use Rattle.std.specs.Prelude.{◌≡◌, ◌≢◌, ℕ, List, [], ◌∷◌, length, map, slice_get, Option, Some, None, Result, Ok, Err, unwrap_or}
+use Rattle.std.specs.Prelude.{◌≡◌, ◌≢◌, ℕ, List, [], ◌∷◌, length, map, slice_get, Option, Some}
+use Rattle.std.specs.Prelude.{None, Result, Ok, Err, unwrap_or}
 use Rattle.name_tables.specs.Names.{operation_names}
 use Rattle.machine_code.specs.declared.op.Op.{Op}
-use Rattle.machine_code.specs.Operands.{OpFits, IsRegister, IsLocal, IsValuePlace, IsNumber, IsLevel, IsSendingWay, IsWidth}
-use Rattle.machine_code.specs.declared.op.Op.TheVariants.{Stmt, Ldi, Ldt, Stt, Lde, Lda, Add, Sub, Mul, Div, Rem, Eq, Ne, Lt, Le, Gt, Ge, And, Or, Jmp, Jz, Ldw, Stw, Ckw, Ckp, Own, Ldx, Stx, Ckf, Chn, Unc, Arg, Snd, Dir, Call, Ret, Trf, End}
+use Rattle.machine_code.specs.Operands.{OpFits, IsRegister, IsLocal, IsValuePlace, IsNumber}
+use Rattle.machine_code.specs.Operands.{IsLevel, IsSendingWay, IsWidth}
+use Rattle.machine_code.specs.declared.op.Op.TheVariants.{Stmt, Ldi, Ldt, Stt, Lde, Lda, Add, Sub}
+use Rattle.machine_code.specs.declared.op.Op.TheVariants.{Mul, Div, Rem, Eq, Ne, Lt, Le, Gt, Ge}
+use Rattle.machine_code.specs.declared.op.Op.TheVariants.{And, Or, Jmp, Jz, Ldw, Stw, Ckw, Ckp, Own}
+use Rattle.machine_code.specs.declared.op.Op.TheVariants.{Ldx, Stx, Ckf, Chn, Unc, Arg, Snd, Dir}
+use Rattle.machine_code.specs.declared.op.Op.TheVariants.{Call, Ret, Trf, End}
 use Rattle.listing.specs.declared.fault.LineFault.{LineFault}
 use Rattle.listing.specs.declared.fault.LineFault.TheVariants.{Form, Operand}
 use Rattle.std.specs.Fmt.{decimal}
@@ -135,7 +141,8 @@ unfoldable pub row_line : ℕ → List ℕ → List ℕ
 row_line place numbers = ended (spoken (name_at place) (map decimal numbers))
 
 -- operands are read as these kinds: their values, or what is wrong with them
-abbrev pub Reads : {V : Type 0} → List Kind → (V → List ℕ) → List (Option ℕ) → Result V LineFault → Type 0
+abbrev pub Reads : {V : Type 0} → List Kind → (V → List ℕ) → List (Option ℕ) → Result V LineFault
+    → Type 0
 Reads ks view os (Ok v) = (os ≡ map (λ n. Some n) (view v)) × AllFit ks os
 Reads ks view os (Err Form) = length os ≢ length ks
 Reads ks view os (Err Operand) = (length os ≡ length ks) × (AllFit ks os → ⊥)

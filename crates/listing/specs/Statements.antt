@@ -1,5 +1,6 @@
 -- One line between the first and the last, as it is read.
-use Rattle.std.specs.Prelude.{◌≡◌, ◌≢◌, ℕ, Bool, true, ◌⊎◌, List, [], ◌∷◌, ◌++◌, length, map, Option, Some, None, Result, Ok, Err, codes}
+use Rattle.std.specs.Prelude.{◌≡◌, ◌≢◌, ℕ, Bool, true, ◌⊎◌, List, [], ◌∷◌, ◌++◌, length, map}
+use Rattle.std.specs.Prelude.{Option, Some, None, Result, Ok, Err, codes}
 use Rattle.machine_code.specs.declared.op.Op.{Op}
 use Rattle.machine_code.specs.Operands.{OpFits, IsNumber}
 use Rattle.listing.specs.declared.fault.LineFault.{LineFault}
@@ -37,20 +38,24 @@ ReadsAddress i os (Err Form) = (o : Option ℕ) → os ≢ Some i ∷ o ∷ []
 ReadsAddress i os (Err Operand) = os ≡ Some i ∷ None ∷ []
 
 -- the operands are those of the entry i, at this address
-pub record IsEntry (i : ℕ) (at_entries : Bool) (name : List ℕ) (os : List (Option ℕ)) (address : ℕ) : Type 0 where
+pub record IsEntry (i : ℕ) (at_entries : Bool) (name : List ℕ) (os : List (Option ℕ))
+    (address : ℕ) : Type 0 where
   pub here : at_entries ≡ true
   pub named : name ≡ codes "ENTRY"
   pub operands : os ≡ Some i ∷ Some address ∷ []
   pub fits : IsNumber address
 
--- they are neither those of the entry i, whatever its address is, nor as many as those of an instruction of the name
-pub record AreStrange (i : ℕ) (at_entries : Bool) (name : List ℕ) (os : List (Option ℕ)) : Type 0 where
+-- they are neither those of the entry i, whatever its address is, nor as many as those of an
+-- instruction of the name
+pub record AreStrange (i : ℕ) (at_entries : Bool) (name : List ℕ) (os : List (Option ℕ)) : Type
+    0 where
   pub entry : (address : Option ℕ) → at_entries ≡ true → name ≡ codes "ENTRY"
       → os ≢ Some i ∷ address ∷ []
   pub op : (op : Op) → IsAlike name os op → ⊥
 
 -- they are, but one is out of its range
-pub record AreOutside (i : ℕ) (at_entries : Bool) (name : List ℕ) (os : List (Option ℕ)) : Type 0 where
+pub record AreOutside (i : ℕ) (at_entries : Bool) (name : List ℕ) (os : List (Option ℕ)) : Type
+    0 where
   pub form : ((at_entries ≡ true) × (name ≡ codes "ENTRY") × (os ≡ Some i ∷ None ∷ []))
       ⊎ ((op : Op) × IsAlike name os op)
   pub entry : (address : ℕ) → name ≡ codes "ENTRY" → os ≢ Some i ∷ Some address ∷ []
@@ -63,7 +68,8 @@ ReadsParts i at_entries name os (Ok (Instruction op)) = IsNamed name os op
 ReadsParts i at_entries name os (Err Form) = AreStrange i at_entries name os
 ReadsParts i at_entries name os (Err Operand) = AreOutside i at_entries name os
 
--- no line of the form: neither the entry i, where entries may stand, nor an instruction, nor the last line
+-- no line of the form: neither the entry i, where entries may stand, nor an instruction, nor the
+-- last line
 pub record HasNoForm (i : ℕ) (at_entries : Bool) (line : List ℕ) : Type 0 where
   pub entry : at_entries ≡ true → HasEntryForm i line → ⊥
   pub op : HasOpForm line → ⊥
@@ -81,7 +87,8 @@ abbrev pub fault_at : LineFault → ℕ → ListFault
 fault_at Form l = BadLine l
 fault_at Operand l = BadOperand l
 
--- a line that is not the last is read behind i entries, where entries may stand only if all lines so far are entries
+-- a line that is not the last is read behind i entries, where entries may stand only if all lines
+-- so far are entries
 abbrev pub ReadsStatement : ℕ → Bool → List ℕ → Result Statement LineFault → Type 0
 ReadsStatement i at_entries line (Ok (Entry address)) =
     (at_entries ≡ true) × IsNumber address × (line ≡ entry_line i address)

@@ -1,6 +1,7 @@
 // The kinds of operands.
 ghost use Rattle.std.specs.Prelude.{◌≡◌, ◌<◌, ◌≤◌, ℕ, Some, [], ◌∷◌, length};
-ghost use Rattle.listing.specs.Rows.{Fits, Kind, Register, Local, Place, Number, Level, Sending, Width, Reads, InRange};
+ghost use Rattle.listing.specs.Rows.{Fits, Kind, Register, Local, Place, Number, Level, Sending};
+ghost use Rattle.listing.specs.Rows.{Width, Reads, InRange};
 
 use crate::fault::LineFault;
 use plex_limits::MOST_VALUES;

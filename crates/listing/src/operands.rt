@@ -1,6 +1,7 @@
 // The operands of an instruction, as many as it has and each of its kind.
 ghost use Rattle.std.specs.Prelude.{[], ◌∷◌};
-ghost use Rattle.listing.specs.Rows.{Kind, Level, Local, Number, Place, Reads, Register, Sending, Width};
+ghost use Rattle.listing.specs.Rows.{Kind, Level, Local, Number, Place, Reads, Register, Sending};
+ghost use Rattle.listing.specs.Rows.{Width};
 
 use crate::fault::LineFault;
 use crate::kinds::{level, local, number, place, register, sending, width};

@@ -16,8 +16,9 @@ use plex_num::{Memory, Seq};
 use std::alloc::Global;
 use text_lines::cut;
 
-/// The code whose listing is this text of at most 16 MiB; else the first line that is not of the form of a listing, `BadLine`, or
-/// has an operand out of its range, `BadOperand`. A text that ends too early is bad at the line after its last.
+/// The code whose listing is this text of at most 16 MiB; else the first line that is not of the
+/// form of a listing, `BadLine`, or has an operand out of its range, `BadOperand`. A text that ends
+/// too early is bad at the line after its last.
 pub fn read_code(alloc: Global, text: &[u8]) -> Result<Code, ListFault>
     requires { length text.now ≤ 2 ^ 24 }
     ensures told { TellsListing text.now result }

@@ -12,7 +12,8 @@ use crate::statement::Statement;
 use machine_code::Op;
 use name_tables::{Row, find};
 
-/// What a line that is not the last says behind so many entries. Another entry may stand there only if no instruction does yet.
+/// What a line that is not the last says behind so many entries. Another entry may stand there only
+/// if no instruction does yet.
 pub fn statement(
     line: &[u8],
     entries: usize,

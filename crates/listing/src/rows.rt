@@ -16,7 +16,8 @@ use machine_code::Op;
 use name_tables::Row;
 use plex_num::{Memory, Seq};
 
-/// Hands to a macro each row: its place in the table, its instruction, and how its operands are read, in their order.
+/// Hands to a macro each row: its place in the table, its instruction, and how its operands are
+/// read, in their order.
 macro_rules! rows {
     ($then:ident) => {
         $then! {

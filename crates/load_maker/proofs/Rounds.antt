@@ -1,5 +1,6 @@
 -- A text that grows by one piece for each number of a range.
-use Rattle.std.proofs.Common.{◌≡◌, ℕ, zero, suc, ◌+◌, ◌-◌, ◌≤◌, List, [], ◌∷◌, ◌++◌, append_assoc, append-nil, ap, sym, ◌∙◌, arith}
+use Rattle.std.proofs.Common.{◌≡◌, ℕ, zero, suc, ◌+◌, ◌-◌, ◌≤◌, List, [], ◌∷◌, ◌++◌, append_assoc}
+use Rattle.std.proofs.Common.{append-nil, ap, sym, ◌∙◌, arith}
 use Rattle.std.proofs.lemmas.List.Concat.{flat_map-append}
 use Rattle.std.specs.List.{flat_map, range_with_len}
 
@@ -20,16 +21,23 @@ grown_begin f text a =
     let none : a - a ≡ 0 = omega arith in
     record { so = rw none (sym (append-nil text)) }
 
-pub grown_more : (f : ℕ → List ℕ) (before : List ℕ) (a i : ℕ) (text new : List ℕ) → Grown f before a i text → a ≤ i → new ≡ text ++ f i → Grown f before a (i + 1) new
+pub grown_more : (f : ℕ → List ℕ) (before : List ℕ) (a i : ℕ) (text new : List ℕ) → Grown f before a i text → a ≤ i
+    → new ≡ text ++ f i → Grown f before a (i + 1) new
 grown_more f before a i text new g from wrote =
     let more : i + 1 - a ≡ i - a + 1 = omega arith in
     let here : a + (i - a) ≡ i = omega arith in
     let front = flat_map f (range_with_len a (i - a)) in
     let pieces : flat_map f (range_with_len a (i - a + 1)) ≡ front ++ f i =
-    ap (flat_map f) (range_more a (i - a) ∙ ap (λ (k : ℕ). range_with_len a (i - a) ++ k ∷ []) here) ∙ flat_map-append f (range_with_len a (i - a)) (i ∷ []) ∙ ap (λ (p : List ℕ). front ++ p) (append-nil (f i)) in
-    record { so = wrote ∙ ap (λ (t : List ℕ). t ++ f i) g.so ∙ append_assoc before front (f i) ∙ ap (λ (p : List ℕ). before ++ p) (sym pieces) ∙ ap (λ (n : ℕ). before ++ flat_map f (range_with_len a n)) (sym more) }
+    ap (flat_map f) (range_more a (i - a) ∙ ap (λ (k : ℕ). range_with_len a (i - a) ++ k ∷ []) here)
+    ∙ flat_map-append f (range_with_len a (i - a)) (i ∷ []) ∙ ap (λ (p : List ℕ). front ++ p) (append-nil (f i)) in
+    record {
+      so = wrote ∙ ap (λ (t : List ℕ). t ++ f i) g.so ∙ append_assoc before front (f i)
+          ∙ ap (λ (p : List ℕ). before ++ p) (sym pieces)
+          ∙ ap (λ (n : ℕ). before ++ flat_map f (range_with_len a n)) (sym more);
+    }
 
-pub grown_end : (f : ℕ → List ℕ) (before : List ℕ) (a i end : ℕ) (text : List ℕ) → Grown f before a i text → i ≤ end → end ≤ i → text ≡ before ++ flat_map f (range_with_len a (end - a))
+pub grown_end : (f : ℕ → List ℕ) (before : List ℕ) (a i end : ℕ) (text : List ℕ) → Grown f before a i text → i ≤ end
+    → end ≤ i → text ≡ before ++ flat_map f (range_with_len a (end - a))
 grown_end f before a i end text g low high =
     let e : i ≡ end = omega arith in
     g.so ∙ ap (λ (k : ℕ). before ++ flat_map f (range_with_len a (k - a))) e

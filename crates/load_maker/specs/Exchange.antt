@@ -1,7 +1,8 @@
 -- The exchange text of a load of n calls: eight blocks in a ring.
 --
--- A call goes round twice, from B1 through B8 and back to B1, and counts its steps in a record of each block. B1 seizes a
--- line for it and frees the line at the end; B4 also counts tones, B8 bills the call, and lets each sixteenth one fault.
+-- A call goes round twice, from B1 through B8 and back to B1, and counts its steps in a record of
+-- each block. B1 seizes a line for it and frees the line at the end; B4 also counts tones, B8 bills
+-- the call, and lets each sixteenth one fault.
 use Rattle.std.specs.Prelude.{ℕ, nat_eq, List, [], ◌∷◌, ◌++◌, codes, if◌then◌else◌}
 use Rattle.std.specs.List.{flat_map, range_with_len}
 use Rattle.load_maker.specs.Patterns.{filled, text_of}

@@ -1,7 +1,7 @@
 -- Lines of text in which letters stand for numbers.
 --
--- All that the language writes is in capitals, so small letters are free: `n` stands for the number of calls, `i` for the
--- number of a block and its signal, and `j` for the number after it.
+-- All that the language writes is in capitals, so small letters are free: `n` stands for the number
+-- of calls, `i` for the number of a block and its signal, and `j` for the number after it.
 use Rattle.std.specs.Prelude.{ℕ, ◌+◌, nat_eq, List, [], ◌∷◌, ◌++◌, if◌then◌else◌}
 use Rattle.std.specs.Fmt.{decimal}
 use Rattle.std.specs.List.{flat_map}

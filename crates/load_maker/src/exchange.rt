@@ -1,14 +1,16 @@
 // The exchange text of a load.
 ghost use Rattle.std.specs.Prelude.{◌≡◌, ◌++◌, IfOk, OnOk};
 ghost use Rattle.std.specs.List.{flat_map, range_with_len};
-ghost use Rattle.load_maker.specs.Exchange.{block, block_text, call_signal, exchange_text, first_block, last_block, other_signals, plain_block, signal_text, tone_block};
+ghost use Rattle.load_maker.specs.Exchange.{block, block_text, call_signal, exchange_text};
+ghost use Rattle.load_maker.specs.Exchange.{first_block, last_block, other_signals, plain_block};
+ghost use Rattle.load_maker.specs.Exchange.{signal_text, tone_block};
 
 use crate::patterns::add_filled;
 use plex_num::{Memory, Seq};
 use std::alloc::Global;
 
-/// The exchange text of a load of so many calls, which is meant for 1 to 10,000: eight blocks in a ring, with a record for each
-/// call. It fails only where memory is refused.
+/// The exchange text of a load of so many calls, which is meant for 1 to 10,000: eight blocks in a
+/// ring, with a record for each call. It fails only where memory is refused.
 #[tactic(auto, unfolding(crate::specs::Exchange::exchange_text))]
 pub fn load_exchange(alloc: Global, n: u32) -> Result<Seq<u8>, Memory>
     ensures { IfOk result (λ text. text ≡ exchange_text n) }

@@ -5,8 +5,8 @@ ghost use Rattle.load_maker.specs.Signals.{call_line, signals_text};
 use plex_num::{Memory, Seq, print_number};
 use std::alloc::Global;
 
-/// The signal file of a load of so many calls, which is meant for 1 to 10,000: a line for each call, numbered from 0. It fails
-/// only where memory is refused.
+/// The signal file of a load of so many calls, which is meant for 1 to 10,000: a line for each
+/// call, numbered from 0. It fails only where memory is refused.
 pub fn load_signals(alloc: Global, n: u32) -> Result<Seq<u8>, Memory>
     ensures { IfOk result (λ text. text ≡ signals_text n) }
 {

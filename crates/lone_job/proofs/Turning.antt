@@ -1,5 +1,6 @@
 -- The turn of the next job.
-use Rattle.std.proofs.Common.{◌≡◌, ℕ, ◌+◌, ◌^◌, ◌<◌, [], length, Option, Some, None, ap, ◌∙◌, subst, arith}
+use Rattle.std.proofs.Common.{◌≡◌, ℕ, ◌+◌, ◌^◌, ◌<◌, [], length, Option, Some, None, ap, ◌∙◌, subst}
+use Rattle.std.proofs.Common.{arith}
 use Rattle.std.proofs.lemmas.Option.{none-some}
 use Rattle.job_types.specs.declared.job.JobStart.{JobStart}
 use Rattle.job_types.specs.declared.outcome.JobDone.{JobDone}
@@ -19,7 +20,8 @@ use Rattle.run_books.specs.Retired.{retired_world}
 use Rattle.run_books.specs.Stores.{MayStore}
 use Rattle.exchange_run.specs.Runs.{MayRun, left_by, words_after}
 use Rattle.run_engines.proofs.Starting.{entry_within}
-use Rattle.exchange_run.proofs.Turning.{goes_on, may_be, may_retire, may_run, some_start, turn_more, upcoming_is}
+use Rattle.exchange_run.proofs.Turning.{goes_on, may_be, may_retire, may_run, some_start, turn_more}
+use Rattle.exchange_run.proofs.Turning.{upcoming_is}
 use Rattle.shared_store.specs.declared.view.Top.{Top}
 use Rattle.shared_store.specs.Loans.{Has, unlent}
 use Rattle.job_runner.specs.Seen.{free_to_write}
@@ -27,7 +29,8 @@ use Rattle.lone_job.specs.Turns.{HasRetiredOn, HasTurnedAlone, MayTurn, RunEnds,
 use Rattle.lone_job.proofs.Words.{free_stores}
 
 -- what the run leaves
-pub done_is : (own : Own) (over : Option Outcome) (done : JobDone) → done.sends ≡ own.sends → done.chain ≡ own.chain → Some done.outcome ≡ over → done ≡ done_of own over
+pub done_is : (own : Own) (over : Option Outcome) (done : JobDone) → done.sends ≡ own.sends → done.chain ≡ own.chain
+    → Some done.outcome ≡ over → done ≡ done_of own over
 done_is own over done sends chain outcome = λ i. record { sends = sends i; chain = chain i; outcome = outcome_of (outcome i) }
 
 -- the number of the next job is one of 64 bits
@@ -44,7 +47,8 @@ some_next x books top may none =
     let some = some_start books.state books.limit may.turn.goes_on in
     none-some some.0 (none ∙ upcoming_is books may.turn.nobody may.turn.goes_on ∙ some.1)
 
-module _ (x : Exchange) (kept : IsExchange x) (books : Account) (top : Top) (may : MayTurn x books top) (start : JobStart) (next : Some start ≡ upcoming books) where
+module _ (x : Exchange) (kept : IsExchange x) (books : Account) (top : Top) (may : MayTurn x books top)
+    (start : JobStart) (next : Some start ≡ upcoming books) where
   pub may_run_here : MayRun x start top.values
   may_run_here = may_run x books start top.values next may.turn.nobody may.turn.goes_on may.turn.valid
 
@@ -89,9 +93,11 @@ module _ (x : Exchange) (kept : IsExchange x) (books : Account) (top : Top) (may
         last_is = r.next_is ∙ ap (λ m. record r.settled { state = arrived x m r.settled.state }) nobody
 
         turned : with_words last.state now.values ≡ turn x (with_words books.state top.values)
-        turned = turn_more x books begun_books r.settled last start done top.values mid.values now.values next may.turn.nobody may.turn.goes_on begins is_done now_is r.retired.state last_is
+        turned = turn_more x books begun_books r.settled last start done top.values mid.values now.values next
+            may.turn.nobody may.turn.goes_on begins is_done now_is r.retired.state last_is
 
-        pub has_turned : (code : Code) (run : Private) (steps : ℕ) → RunEnds code start top.values run mid → done ≡ done_of run.own run.over → steps ≡ run.made → HasTurnedAlone x code books top last now steps
+        pub has_turned : (code : Code) (run : Private) (steps : ℕ) → RunEnds code start top.values run mid
+            → done ≡ done_of run.own run.over → steps ≡ run.made → HasTurnedAlone x code books top last now steps
         has_turned code run steps comes leaves made =
             let same : done ≡ done_of comes.end.run.own comes.end.run.over = leaves ∙ ap (λ (p : Private). done_of p.own p.over) comes.run_is in
             record {

@@ -1,5 +1,6 @@
 -- The words of a root, and a run on them.
-use Rattle.std.proofs.Common.{◌≡◌, ℕ, ◌≤◌, Bool, true, false, List, [], ◌∷◌, length, Option, Some, refl, sym, ap, ◌∙◌, subst, arith}
+use Rattle.std.proofs.Common.{◌≡◌, ℕ, ◌≤◌, Bool, true, false, List, [], ◌∷◌, length, Option, Some}
+use Rattle.std.proofs.Common.{refl, sym, ap, ◌∙◌, subst, arith}
 use Rattle.std.specs.Prelude.{◌&&◌, not}
 use Rattle.std.specs.List.{AllByRecursion}
 use Rattle.std.proofs.lemmas.Bool.{false_from_ne_true}
@@ -37,20 +38,34 @@ pub and_not : (a b : Bool) → a ≡ true → b ≡ false → (a && not b) ≡ t
 and_not a b e f = ap (λ t. t && not b) e ∙ ap (λ t. not t) f
 
 -- stores that may be made, none of them to a word of a loan's permit, may be made beside the loans
-pub free_stores : (t : Top) (ts : List Touch) → MayStore (is_word_of t.values) ts → ((l : Lent) → Has t.loans l → (w : ℕ) → may_read l.permit w ≡ true → NoStore w ts) → MayStore (free_to_write t) ts
+pub free_stores : (t : Top) (ts : List Touch) → MayStore (is_word_of t.values) ts
+    → ((l : Lent) → Has t.loans l → (w : ℕ) → may_read l.permit w ≡ true → NoStore w ts) → MayStore (free_to_write t) ts
 free_stores t [] may aside = tt
 free_stores t (Load u v ∷ ts) may aside = free_stores t ts may aside
 free_stores t (Store u v ∷ ts) may aside = (
-  and_not (is_word_of t.values u) (seen_by t.loans u) may.0 (seen_by_all t.loans u (λ l has. false_from_ne_true (may_read l.permit u) (λ reads. (aside l has u reads).0 refl))),
+  and_not (is_word_of t.values u) (seen_by t.loans u) may.0
+      (seen_by_all t.loans u (λ l has. false_from_ne_true (may_read l.permit u)
+      (λ reads. (aside l has u reads).0 refl))),
   free_stores t ts may.1 (λ l has w reads. (aside l has w reads).1),
 )
 
 -- ## A job runs on the words of a root that has lent nothing
 
-may_make : (x : Exchange) (top : Top) (ts : List Touch) → top.loans ≡ [] → length top.values ≡ x.cells → x.cells ≤ 1000000 → AreOfCells x ts → AllByRecursion (MayMake (free_to_read top) (free_to_write top)) ts
+may_make : (x : Exchange) (top : Top) (ts : List Touch) → top.loans ≡ [] → length top.values ≡ x.cells
+    → x.cells ≤ 1000000 → AreOfCells x ts → AllByRecursion (MayMake (free_to_read top) (free_to_write top)) ts
 may_make x top [] bare whole few all = tt
-may_make x top (Load w v ∷ ts) bare whole few all = (and_not (is_word_of top.values w) (lent_out top.loans w) (word_of top.values x.cells w whole few all.0) (ap (λ ls. lent_out ls w) bare), may_make x top ts bare whole few all.1)
-may_make x top (Store w v ∷ ts) bare whole few all = (and_not (is_word_of top.values w) (seen_by top.loans w) (word_of top.values x.cells w whole few all.0) (ap (λ ls. seen_by ls w) bare), may_make x top ts bare whole few all.1)
+may_make x top (Load w v ∷ ts) bare whole few all = (
+  and_not (is_word_of top.values w) (lent_out top.loans w)
+      (word_of top.values x.cells w whole few all.0) (ap (λ ls. lent_out ls w) bare),
+  may_make x top ts bare whole few
+      all.1,
+)
+may_make x top (Store w v ∷ ts) bare whole few
+    all = (
+      and_not (is_word_of top.values w) (seen_by top.loans w) (word_of top.values x.cells w whole few all.0)
+          (ap (λ ls. seen_by ls w) bare),
+      may_make x top ts bare whole few all.1,
+    )
 
 module _ (x : Exchange) (code : Code) (kept : IsExchange x) (start : JobStart) (top : Top) (bare : top.loans ≡ []) (may : MayRun x start top.values) where
   here : (b : Begins x code (started code start) top.values (free_to_read top) (free_to_write top)) × (b.start ≡ start)
@@ -70,13 +85,18 @@ module _ (x : Exchange) (code : Code) (kept : IsExchange x) (start : JobStart) (
       )
 
   -- where the run begins
-  pub begins_alone : (run : Private) (mid : Top) → mid ≡ top → run ≡ started code start → (b : Begins x code run mid.values (free_to_read mid) (free_to_write mid)) × (b.start ≡ start)
+  pub begins_alone : (run : Private) (mid : Top) → mid ≡ top → run ≡ started code start
+      → (b : Begins x code run mid.values (free_to_read mid) (free_to_write mid)) × (b.start ≡ start)
   begins_alone run mid mid_is run_is =
-      subst (λ (z : Private × Top). (b : Begins x code z.0 z.1.values (free_to_read z.1) (free_to_write z.1)) × (b.start ≡ start)) (λ i. (sym run_is i, sym mid_is i)) here
+      subst (λ (z : Private × Top). (b : Begins x code z.0 z.1.values (free_to_read z.1) (free_to_write z.1))
+      × (b.start ≡ start)) (λ i. (sym run_is i, sym mid_is i)) here
 
   -- what it leaves
-  pub has_run_alone : (run left : Private) (mid now : Top) (told now_told : Option (List Touch)) → mid ≡ top → run ≡ started code start → ComesToEnd code.ops run mid.values told left now.values now_told
-      → ((b : Begins x code run mid.values (free_to_read mid) (free_to_write mid)) → ComesToMeaning (job x b.start mid.values) told left now.values now_told) → now.loans ≡ mid.loans → HasRunAlone x code start top.values left now
+  pub has_run_alone : (run left : Private) (mid now : Top) (told now_told : Option (List Touch)) → mid ≡ top
+      → run ≡ started code start → ComesToEnd code.ops run mid.values told left now.values now_told
+      → ((b : Begins x code run mid.values (free_to_read mid) (free_to_write mid))
+      → ComesToMeaning (job x b.start mid.values) told left now.values now_told) → now.loans ≡ mid.loans
+      → HasRunAlone x code start top.values left now
   has_run_alone run left mid now told now_told mid_is run_is e meaning loans =
       let b = begins_alone run mid mid_is run_is in
       let end = subst (λ (z : Private × Top). ComesToEnd code.ops z.0 z.1.values told left now.values now_told) (λ i. (run_is i, mid_is i)) e in
@@ -89,7 +109,8 @@ module _ (x : Exchange) (code : Code) (kept : IsExchange x) (start : JobStart) (
       }
 
 -- what the run leaves is what the job leaves
-pub done_alone : (run : Private) (done left : JobDone) → Leaves run left → done.sends ≡ run.own.sends → done.chain ≡ run.own.chain → Some done.outcome ≡ run.over → done ≡ left
+pub done_alone : (run : Private) (done left : JobDone) → Leaves run left → done.sends ≡ run.own.sends
+    → done.chain ≡ run.own.chain → Some done.outcome ≡ run.over → done ≡ left
 done_alone run done left l sends chain outcome =
     let how = same_Some done.outcome left.outcome (outcome ∙ l.over) in
     λ i. record { sends = (sends ∙ l.sends) i; chain = (chain ∙ l.chain) i; outcome = how i }

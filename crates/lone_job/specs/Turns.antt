@@ -20,22 +20,26 @@ use Rattle.shared_store.specs.declared.view.Top.{Top}
 use Rattle.shared_store.specs.Loans.{unlent}
 use Rattle.shared_store.specs.Seats.{RootView, StoreId}
 
--- the next job of the books may run on the root's own words: there is a turn, and the root has lent nothing
+-- the next job of the books may run on the root's own words: there is a turn, and the root has lent
+-- nothing
 pub record MayTurn (x : Exchange) (books : Account) (top : Top) : Type 0 where
   pub turn : HasTurn x books top.values
   pub limited : books.limit ≤ MOST_JOBS
   pub bare : top.loans ≡ []
 
--- the run of this start by the code, alone on these words, comes to its end: this run, and the values that this root has
-pub record RunEnds (code : Code) (start : JobStart) (words : List ℕ) (run : Private) (root : Top) : Type 0 where
+-- the run of this start by the code, alone on these words, comes to its end: this run, and the
+-- values that this root has
+pub record RunEnds (code : Code) (start : JobStart) (words : List ℕ) (run : Private)
+    (root : Top) : Type 0 where
   pub end : Machine
   pub ends : Ends code.ops (begun (started code start) words) end
   pub run_is : run ≡ end.run
   pub words_are : root.values ≡ end.world.store
 
--- a job of this start has run to its end on these words, which the root had lent to nobody: its run leaves what the job means, and
--- the root has the words after the job
-pub record HasRunAlone (x : Exchange) (code : Code) (start : JobStart) (words : List ℕ) (run : Private) (root : Top) : Type 0 where
+-- a job of this start has run to its end on these words, which the root had lent to nobody: its run
+-- leaves what the job means, and the root has the words after the job
+pub record HasRunAlone (x : Exchange) (code : Code) (start : JobStart) (words : List ℕ)
+    (run : Private) (root : Top) : Type 0 where
   pub leaves : Leaves run (left_by x start words)
   pub root_is : root ≡ unlent (words_after x start words)
   pub comes : RunEnds code start words run root
@@ -45,24 +49,29 @@ abbrev pub arrived : Exchange → ℕ → State → State
 arrived x zero s = arrivals x s
 arrived x (suc n) s = s
 
--- a job of this start, which left this, has retired in the books and on the words of a root, and what was due arrived where no job ran
--- any more; the root lends what it lent
-pub record HasRetiredOn (x : Exchange) (start : JobStart) (done : JobDone) (books : Account) (top : Top) (next : Account) (now : Top) : Type 0 where
+-- a job of this start, which left this, has retired in the books and on the words of a root, and
+-- what was due arrived where no job ran any more; the root lends what it lent
+pub record HasRetiredOn (x : Exchange) (start : JobStart) (done : JobDone) (books : Account)
+    (top : Top) (next : Account) (now : Top) : Type 0 where
   pub settled : Account
   pub retired : HasRetired x start done books settled top.values now.values None None
   pub next_is : next ≡ record settled { state = arrived x settled.running settled.state }
   pub loans : now.loans ≡ top.loans
 
--- the next job of the books has had its turn on the words of a root that lent nothing, and still does not: its run by the code came to
--- its end with so many instructions, it retired then, and what was due arrived
-pub record HasTurnedAlone (x : Exchange) (code : Code) (books : Account) (top : Top) (next : Account) (now : Top) (steps : ℕ) : Type 0 where
+-- the next job of the books has had its turn on the words of a root that lent nothing, and still
+-- does not: its run by the code came to its end with so many instructions, it retired then, and
+-- what was due arrived
+pub record HasTurnedAlone (x : Exchange) (code : Code) (books : Account) (top : Top)
+    (next : Account) (now : Top) (steps : ℕ) : Type 0 where
   pub start : JobStart
   pub is_next : Some start ≡ upcoming books
   pub end : Machine
   pub ends : Ends code.ops (begun (started code start) top.values) end
   pub made : steps ≡ end.run.made
   pub settled : Account
-  pub left : with_words settled.state now.values ≡ retires x start (done_of end.run.own end.run.over) (with_words (after_start (Some start) books).state end.world.store)
+  pub left : with_words settled.state now.values
+      ≡ retires x start (done_of end.run.own end.run.over)
+      (with_words (after_start (Some start) books).state end.world.store)
   pub nobody : settled.running ≡ 0
   pub limit : settled.limit ≡ books.limit
   pub arrived : next ≡ record settled { state = arrivals x settled.state }

@@ -8,7 +8,8 @@ ghost use Rattle.job_runner.specs.Seen.{free_to_write};
 ghost use Rattle.exchange_run.specs.Runs.{MayRun};
 ghost use Rattle.machine_meaning.specs.Faithful.{Faithful, started};
 ghost use Rattle.lone_job.specs.Contexts.{IsContext};
-ghost use Rattle.lone_job.specs.Turns.{HasRetiredOn, HasRunAlone, HasTurnedAlone, KeepsLoans, LendsNothing, MayTurn, arrived};
+ghost use Rattle.lone_job.specs.Turns.{HasRetiredOn, HasRunAlone, HasTurnedAlone, KeepsLoans};
+ghost use Rattle.lone_job.specs.Turns.{LendsNothing, MayTurn, arrived};
 
 use crate::context::RunContext;
 use exchange_model::Exchange;

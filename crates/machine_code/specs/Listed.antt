@@ -7,7 +7,8 @@ abbrev pub is_word_of : List ℕ → ℕ → Bool
 is_word_of vs w = nat_lt w (length vs) && nat_lt w (2 ^ 32)
 
 pub word_within : (vs : List ℕ) (w : ℕ) → is_word_of vs w ≡ true → w < length vs
-word_within vs w e = ltb-true w (length vs) (and_parts (nat_lt w (length vs)) (nat_lt w (2 ^ 32)) e).0
+word_within vs w e = ltb-true w (length vs) (and_parts (nat_lt w (length vs)) (nat_lt w (2 ^ 32))
+    e).0
 
 pub word_fits : (vs : List ℕ) (w : ℕ) → is_word_of vs w ≡ true → w < 2 ^ 32
 word_fits vs w e = ltb-true w (2 ^ 32) (and_parts (nat_lt w (length vs)) (nat_lt w (2 ^ 32)) e).1

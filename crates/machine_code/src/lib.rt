@@ -1,10 +1,10 @@
 // The code of the register machine as data, and the words that it runs over.
 //
-// What comes out: `Op` and `Code`, the instructions and the addresses at which entries begin; `Permit`,
-// the words that a job may read and write; and the trait `Words`, by which
-// one machine runs over a list, over the shared words of a loan, and over those of the root. The layers
-// above stand on the laws of `Words` and on the words of a permit.
-// It knows neither what an instruction does nor which words an exchange has.
+// What comes out: `Op` and `Code`, the instructions and the addresses at which entries begin;
+// `Permit`, the words that a job may read and write; and the trait `Words`, by which one machine
+// runs over a list, over the shared words of a loan, and over those of the root. The layers above
+// stand on the laws of `Words` and on the words of a permit. It knows neither what an instruction
+// does nor which words an exchange has.
 #![tactic(auto)]
 
 mod choices;

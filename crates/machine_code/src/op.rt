@@ -1,5 +1,6 @@
-/// An instruction. `r` and `s` are registers, `i` a local, `k` the place of a value, `w` a word, `a` an address, `p` a point,
-/// `f` a file, `m` a signal, `x` an entry or a signal, `l` a level from 0 for A, `q` the kind of a send, `d` a width in bits, and `n` any number.
+/// An instruction. `r` and `s` are registers, `i` a local, `k` the place of a value, `w` a word,
+/// `a` an address, `p` a point, `f` a file, `m` a signal, `x` an entry or a signal, `l` a level
+/// from 0 for A, `q` the kind of a send, `d` a width in bits, and `n` any number.
 #[derive(Clone, Copy)]
 pub enum Op {
     /// A statement begins, at the point p.
@@ -66,7 +67,8 @@ pub enum Op {
     Unc { r: u8, f: u32 },
     /// r joins the outgoing values.
     Arg { r: u8 },
-    /// Sends the outgoing values to x: with q 0 to an entry at the level l, with q 1 the same in a new forlopp, with q 2 out of the exchange.
+    /// Sends the outgoing values to x: with q 0 to an entry at the level l, with q 1 the same in a
+    /// new forlopp, with q 2 out of the exchange.
     Snd { q: u8, x: u32, l: u8 },
     /// Goes to a in another block, with the outgoing values.
     Dir { a: u32 },

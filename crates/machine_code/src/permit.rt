@@ -8,7 +8,8 @@ pub struct Span {
     pub stride: u32,
 }
 
-/// The words that a job may read, and those that it may write. A word that it may write it may read too.
+/// The words that a job may read, and those that it may write. A word that it may write it may read
+/// too.
 #[derive(Drop)]
 pub struct Permit {
     pub reads: Seq<Span>,

@@ -1,10 +1,12 @@
-ghost use Rattle.std.specs.Prelude.{◌≡◌, ℕ, ◌<◌, ◌^◌, Bool, true, List, Option, slice_index, slice_set};
+ghost use Rattle.std.specs.Prelude.{◌≡◌, ℕ, ◌<◌, ◌^◌, Bool, true, List, Option, slice_index};
+ghost use Rattle.std.specs.Prelude.{slice_set};
 ghost use Rattle.job_types.specs.declared.touch.Touch.{Touch};
 ghost use Rattle.machine_code.specs.Told.{told_more};
 
 use plex_num::Seq;
 
-/// Words as the machine sees them: numbers of 32 bits, each of which may be read or written where the object lets it.
+/// Words as the machine sees them: numbers of 32 bits, each of which may be read or written where
+/// the object lets it.
 pub trait Words {
     // The value of each word, in order.
     ghost values: { Self → List ℕ };

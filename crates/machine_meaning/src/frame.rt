@@ -1,4 +1,5 @@
-/// A caller that waits: the address at which it goes on, its locals and entry values, and the number of the signal that answers it.
+/// A caller that waits: the address at which it goes on, its locals and entry values, and the
+/// number of the signal that answers it.
 #[derive(Clone, Copy)]
 pub struct Frame {
     pub back: usize,

@@ -1,5 +1,6 @@
 -- The text that comes with Done is run as the files that it comes of.
-use Rattle.std.proofs.Common.{◌≡◌, ℕ, ◌≤◌, List, [], ◌∷◌, length, Option, Some, None, Result, Ok, Err, sym, subst, ap, ◌∙◌}
+use Rattle.std.proofs.Common.{◌≡◌, ℕ, ◌≤◌, List, [], ◌∷◌, length, Option, Some, None, Result, Ok}
+use Rattle.std.proofs.Common.{Err, sym, subst, ap, ◌∙◌}
 use Rattle.std.specs.Result.{result_ok}
 use Rattle.std.proofs.lemmas.Option.{same_Some}
 use Rattle.plex_io.specs.Files.{Files}
@@ -16,7 +17,8 @@ use Rattle.answer_meaning.specs.declared.fault.Which.TheVariants.{First}
 use Rattle.answer_meaning.specs.Outcome.{Out, goes_on, or_refused}
 use Rattle.answer_meaning.specs.Reading.{exchange_of_text}
 use Rattle.answer_meaning.specs.Text.{signals_refusal, source_refusal, table_refusal}
-use Rattle.answer_meaning.specs.Given.{exchange_at, exchange_of_file, lines_at, lines_of_file, text_at, text_of_file}
+use Rattle.answer_meaning.specs.Given.{exchange_at, exchange_of_file, lines_at, lines_of_file}
+use Rattle.answer_meaning.specs.Given.{text_at, text_of_file}
 use Rattle.answer_meaning.specs.RunAnswer.{run_of}
 use Rattle.answer_meaning.specs.TimedAnswer.{merged_at, merged_of_file, timed_of}
 use Rattle.answer_meaning.specs.Answer.{answer_of}
@@ -67,7 +69,8 @@ lines_never x (Some text) = refused signals_refusal (signal_lines x text) (λ f 
 merged_never : (x : Exchange) (lines : List Line) (text : Option (List ℕ)) → NeverDone (merged_of_file x lines text)
 unfolding NeverDone IsDone table_refusal
 merged_never x lines None = λ d. d
-merged_never x lines (Some text) = followed (or_refused table_refusal (table_periods x (length lines) text)) (λ ps. Ok (merged lines ps)) (refused table_refusal (table_periods x (length lines) text) (λ f d. d)) (λ ps. tt)
+merged_never x lines (Some text) = followed (or_refused table_refusal (table_periods x (length lines) text))
+    (λ ps. Ok (merged lines ps)) (refused table_refusal (table_periods x (length lines) text) (λ f d. d)) (λ ps. tt)
 
 merge_never : (e s t : Word) (files : Files) → NeverDone (merge_of e s t files)
 unfolding NeverDone
@@ -86,17 +89,23 @@ told_done (Err r) a never is d = absurd (never (done r.status (ap (λ x. x.statu
 text_of : (x : Exchange) (all : List Line) (a : Answer) → lines_answer x all ≡ a → written_out x all ≡ a.text
 text_of x all a is = ap (λ r. r.text) is
 
-pub merged_run : (w : TimedWords) (files others : Files) (name : Word) (a : Answer) → IsMergeAnswer (w.run.exchange ∷ w.run.signals ∷ w.table ∷ []) files a → a.status ≡ status.Done
+pub merged_run : (w : TimedWords) (files others : Files) (name : Word) (a : Answer)
+    → IsMergeAnswer (w.run.exchange ∷ w.run.signals ∷ w.table ∷ []) files a → a.status ≡ status.Done
     → exchange_at w.run.exchange others ≡ exchange_at w.run.exchange files → others name ≡ Some a.text → length a.text ≤ MOST_BYTES
     → run_of (record w.run { signals = name }) others ≡ timed_of w files
 unfolding IsMergeAnswer
 merged_run w files others name a answer d same held small =
-    let comes : merge_of w.run.exchange w.run.signals w.table files ≡ Ok a = told_done (merge_of w.run.exchange w.run.signals w.table files) a (merge_never w.run.exchange w.run.signals w.table files) answer d in
-    let first = gone_on (exchange_at w.run.exchange files) (λ x. goes_on (lines_at x w.run.signals files) (λ lines. goes_on (merged_at x lines w.table files) (λ all. Ok (lines_answer x all)))) a comes in
+    let comes : merge_of w.run.exchange w.run.signals w.table files
+    ≡ Ok a = told_done (merge_of w.run.exchange w.run.signals w.table files) a
+    (merge_never w.run.exchange w.run.signals w.table files) answer d in
+    let first = gone_on (exchange_at w.run.exchange files)
+    (λ x. goes_on (lines_at x w.run.signals files)
+    (λ lines. goes_on (merged_at x lines w.table files) (λ all. Ok (lines_answer x all)))) a comes in
     let x : Exchange = first.0 in
     let second = gone_on (lines_at x w.run.signals files) (λ lines. goes_on (merged_at x lines w.table files) (λ all. Ok (lines_answer x all))) a first.2 in
     let lines : List Line = second.0 in
     let third = gone_on (merged_at x lines w.table files) (λ all. Ok (lines_answer x all)) a second.2 in
     let all : List Line = third.0 in
     let text : written_out x all ≡ a.text = text_of x all a (same_Some (lines_answer x all) a (ap result_ok third.2)) in
-    timed_is_run w files others name x lines all first.1 second.1 third.1 (same ∙ first.1) (held ∙ ap Some (sym text)) (subst (λ t. length t ≤ MOST_BYTES) (sym text) small)
+    timed_is_run w files others name x lines all first.1 second.1 third.1 (same ∙ first.1) (held ∙ ap Some (sym text))
+    (subst (λ t. length t ≤ MOST_BYTES) (sym text) small)

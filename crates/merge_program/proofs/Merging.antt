@@ -1,5 +1,6 @@
 -- From what three files come to, to the answer to the words.
-use Rattle.std.proofs.Common.{◌≡◌, ℕ, ◌≤◌, ◌<◌, List, [], ◌∷◌, length, get_or, arith, Option, Result, Ok, IfOk, refl, subst, ap}
+use Rattle.std.proofs.Common.{◌≡◌, ℕ, ◌≤◌, ◌<◌, List, [], ◌∷◌, length, get_or, arith, Option}
+use Rattle.std.proofs.Common.{Result, Ok, IfOk, refl, subst, ap}
 use Rattle.plex_io.specs.Files.{Files}
 use Rattle.command_words.specs.Words.{Word}
 use Rattle.answer_meaning.specs.Outcome.{Out}
@@ -13,7 +14,8 @@ use Rattle.answer_meaning.specs.declared.answer.Stop.{Stop}
 use Rattle.merge_program.specs.Merge.{AreOthers, IsMergeAnswer, merge_of, usage_answer}
 
 -- three words are their items
-three_are : (words : List Word) (e s t : Word) → 3 ≤ length words → length words < 4 → e ≡ get_or words 0 e → s ≡ get_or words 1 s → t ≡ get_or words 2 t → e ∷ s ∷ t ∷ [] ≡ words
+three_are : (words : List Word) (e s t : Word) → 3 ≤ length words → length words < 4 → e ≡ get_or words 0 e
+    → s ≡ get_or words 1 s → t ≡ get_or words 2 t → e ∷ s ∷ t ∷ [] ≡ words
 three_are [] e s t least most i j k = absurd (omega (arith, least))
 three_are (u ∷ []) e s t least most i j k = absurd (omega (arith, least))
 three_are (u ∷ v ∷ []) e s t least most i j k = absurd (omega (arith, least))
@@ -25,7 +27,9 @@ named : (e s t : Word) (files : Files) (o : Out Answer) → merge_of e s t files
 unfolding IsMergeAnswer
 named e s t files o is = ap answer_of is
 
-module _ (held : Option Files) (words : List Word) (e s t : Word) (b a : ℕ) (r : Result Answer Stop) (least : 3 ≤ length words) (most : length words < 4) (i : e ≡ get_or words 0 e) (j : s ≡ get_or words 1 s) (k : t ≡ get_or words 2 t) (comes : Comes held (merge_of e s t) b a r) where
+module _ (held : Option Files) (words : List Word) (e s t : Word) (b a : ℕ) (r : Result Answer Stop)
+    (least : 3 ≤ length words) (most : length words < 4) (i : e ≡ get_or words 0 e) (j : s ≡ get_or words 1 s)
+    (k : t ≡ get_or words 2 t) (comes : Comes held (merge_of e s t) b a r) where
   pub answers_three : Answers (IsMergeAnswer words) held b a r
   answers_three =
       subst (λ ws. Answers (IsMergeAnswer ws) held b a r) (three_are words e s t least most i j k)
@@ -45,8 +49,10 @@ usage_is (u ∷ v ∷ []) files o others is = ap answer_of is
 usage_is (u ∷ v ∷ w ∷ []) files o others is = absurd (others refl)
 usage_is (u ∷ v ∷ w ∷ x ∷ rest) files o others is = ap answer_of is
 
-pub answers_usage : (held : Option Files) (words : List Word) (n : ℕ) (r : Result Answer Stop) → AreOthers words → ReadAs (Ok usage_answer) r → Answers (IsMergeAnswer words) held n n r
+pub answers_usage : (held : Option Files) (words : List Word) (n : ℕ) (r : Result Answer Stop) → AreOthers words
+    → ReadAs (Ok usage_answer) r → Answers (IsMergeAnswer words) held n n r
 answers_usage held words n r others reads =
-    performs_as held (λ files o. Ok usage_answer ≡ o) (λ files o. IsMergeAnswer words files (answer_of o)) n n r (λ files o. usage_is words files o others) (performs_told held (λ o. Ok usage_answer ≡ o) n r reads)
+    performs_as held (λ files o. Ok usage_answer ≡ o) (λ files o. IsMergeAnswer words files (answer_of o)) n n r
+    (λ files o. usage_is words files o others) (performs_told held (λ o. Ok usage_answer ≡ o) n r reads)
 
 pub ruleset usage_rules = (answers_usage, makes_usage)

@@ -24,7 +24,8 @@ usage_answer = record { status = status.Usage; text = usage_text }
 abbrev pub lines_answer : Exchange → List Line → Answer
 lines_answer x lines = record { status = status.Done; text = written_out x lines }
 
--- what the files of these names come to: the lines of the signal file and the signals of the table are written out as one signal file
+-- what the files of these names come to: the lines of the signal file and the signals of the table
+-- are written out as one signal file
 abbrev pub merge_of : (exchange signals table : Word) → Files → Out Answer
 merge_of e s t files =
     goes_on (exchange_at e files) (λ x.

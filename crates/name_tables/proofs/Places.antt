@@ -1,5 +1,7 @@
 -- Where a name stands among the names of rows.
-use Rattle.std.proofs.Common.{true≢false, ◌≡◌, ◌≢◌, ◌↔◌, ℕ, ◌+◌, ◌<◌, ◌≤◌, Bool, true, false, not, cond, nat_lt, List, [], length, map, refl, sym, ◌∙◌, ap, arith, Option, Some, None, get_or, slice_get}
+use Rattle.std.proofs.Common.{true≢false, ◌≡◌, ◌≢◌, ◌↔◌, ℕ, ◌+◌, ◌<◌, ◌≤◌, Bool, true, false, not}
+use Rattle.std.proofs.Common.{cond, nat_lt, List, [], length, map, refl, sym, ◌∙◌, ap, arith}
+use Rattle.std.proofs.Common.{Option, Some, None, get_or, slice_get}
 use Rattle.std.specs.List.{position, position_or_len}
 use Rattle.std.specs.Cmp.Lexicographic.{same_text, other_text}
 use Rattle.std.proofs.lemmas.List.{length-map}
@@ -10,9 +12,12 @@ use Rattle.std.proofs.lemmas.Bool.{lt-ltb, ltb-false}
 use Rattle.std.proofs.lemmas.Option.{slice_get_within, slice_get-get_or, get_or_from_slice_get}
 use Rattle.name_tables.specs.Rows.{place_of, same_bytes, NamesDiffer}
 
-pub place_of_rows : {R : Type 0} (text : R → List ℕ) (rows : List R) (name : List ℕ) → place_of (map text rows) name ≡ position (λ r. same_bytes (text r) name) rows
+pub place_of_rows : {R : Type 0} (text : R → List ℕ) (rows : List R) (name : List ℕ)
+    → place_of (map text rows) name ≡ position (λ r. same_bytes (text r) name) rows
 place_of_rows {R = R} text rows name =
-    let same = same_from_clauses (λ (rs : List R). position_or_len (λ n. same_bytes n name) (map text rs)) (position_or_len (λ (r : R). same_bytes (text r) name)) (λ (r : R) (n : ℕ). cond (not (same_bytes (text r) name)) (1 + n) 0) refl (λ r rs. refl) (λ r rs. refl) rows in
+    let same = same_from_clauses (λ (rs : List R). position_or_len (λ n. same_bytes n name) (map text rs))
+    (position_or_len (λ (r : R). same_bytes (text r) name))
+    (λ (r : R) (n : ℕ). cond (not (same_bytes (text r) name)) (1 + n) 0) refl (λ r rs. refl) (λ r rs. refl) rows in
     rw (same, length-map rows text) refl
 
 -- a test of two names tells whether they are the same
@@ -44,14 +49,18 @@ stands_is_found names name i differ e =
     (λ _. same_bytes-self (get_or names i []) name _ here refl) in
     rw (at, lt-ltb i (length names) within) refl
 
-pub found_where_it_stands : (names : List (List ℕ)) (name : List ℕ) (i : ℕ) → NamesDiffer names → (place_of names name ≡ Some i) ↔ (slice_get names i ≡ Some name)
+pub found_where_it_stands : (names : List (List ℕ)) (name : List ℕ) (i : ℕ) → NamesDiffer names
+    → (place_of names name ≡ Some i) ↔ (slice_get names i ≡ Some name)
 found_where_it_stands names name i differ = (found_has_name names name i, stands_is_found names name i differ)
 
-pub found_is_first : (names : List (List ℕ)) (name : List ℕ) (i : ℕ) → place_of names name ≡ Some i → (slice_get names i ≡ Some name) × ((k : ℕ) → k < i → slice_get names k ≢ Some name)
+pub found_is_first : (names : List (List ℕ)) (name : List ℕ) (i : ℕ) → place_of names name ≡ Some i
+    → (slice_get names i ≡ Some name) × ((k : ℕ) → k < i → slice_get names k ≢ Some name)
 found_is_first names name i h = (found_has_name names name i h, λ k lt. first_of_name names name i k h lt)
 
 -- where no name is found, none stands
-nowhere_found : (names : List (List ℕ)) (name : List ℕ) (t : Bool) → nat_lt (position_or_len (λ n. same_bytes n name) names) (length names) ≡ t → place_of names name ≡ None → length names ≤ position_or_len (λ n. same_bytes n name) names
+nowhere_found : (names : List (List ℕ)) (name : List ℕ) (t : Bool)
+    → nat_lt (position_or_len (λ n. same_bytes n name) names) (length names) ≡ t → place_of names name ≡ None
+    → length names ≤ position_or_len (λ n. same_bytes n name) names
 nowhere_found names name true e h =
     let some : place_of names name ≡ Some (position_or_len (λ n. same_bytes n name) names) = rw e refl in
     absurd (some_is_none (sym some ∙ h))

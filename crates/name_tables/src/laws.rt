@@ -2,7 +2,8 @@
 ghost use Rattle.std.specs.Prelude.{◌≡◌, ◌≢◌, ◌<◌, ◌↔◌, List, ℕ, slice_get, Some, None};
 ghost use Rattle.name_tables.specs.Rows.{NamesDiffer, place_of};
 
-/// `find` and `name_of` are inverse where names differ: a name is found at the very place that has it.
+/// `find` and `name_of` are inverse where names differ: a name is found at the very place that has
+/// it.
 #[tactic(auto, using(crate::proofs::Places::found_where_it_stands))]
 pub fn found_where_it_stands()
     ensures { (names : List (List ℕ)) (name : List ℕ) (i : ℕ) → NamesDiffer names →

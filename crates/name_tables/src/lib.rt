@@ -1,8 +1,8 @@
 // Tables of rows with names: the keywords of the language and the instructions of the machine, and
 // the two ways to look in a table, by name and by place.
 //
-// The lexer stands on the contract of `find`, which says the place of the first row of a name; those
-// who write names stand on that of `name_of`. It knows nothing of texts.
+// The lexer stands on the contract of `find`, which says the place of the first row of a name;
+// those who write names stand on that of `name_of`. It knows nothing of texts.
 #![tactic(auto)]
 
 mod laws;

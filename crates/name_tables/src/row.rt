@@ -1,4 +1,5 @@
-ghost use Rattle.std.specs.Prelude.{◌≡◌, ◌<◌, ◌≤◌, length, map, position, slice_get, IfSome, MatchOption, Some};
+ghost use Rattle.std.specs.Prelude.{◌≡◌, ◌<◌, ◌≤◌, length, map, position, slice_get, IfSome};
+ghost use Rattle.std.specs.Prelude.{MatchOption, Some};
 ghost use Rattle.name_tables.specs.Rows.{place_of, same_bytes};
 
 /// A row of a table: a name and its code.

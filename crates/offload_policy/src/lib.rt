@@ -1,10 +1,10 @@
 // When the jobs of a run are worth another thread.
 //
 // What goes in: how many instructions jobs made, how many statements they counted, and how many
-// workers there are. What comes out: how long a job is by that, whether the jobs of late are long and
-// whether they had company, the numbers by which a dispatcher counts what a loan, a thread and a
-// wake-up are worth, and when an analysis is made. Nothing here has a contract: what comes out of a
-// run is the same whatever is told. It knows neither jobs nor runs.
+// workers there are. What comes out: how long a job is by that, whether the jobs of late are long
+// and whether they had company, the numbers by which a dispatcher counts what a loan, a thread and
+// a wake-up are worth, and when an analysis is made. Nothing here has a contract: what comes out of
+// a run is the same whatever is told. It knows neither jobs nor runs.
 #![tactic(auto)]
 
 mod analysing;

@@ -1,12 +1,14 @@
 -- When nothing arrives, and what an arrival leaves as it is.
-use Rattle.std.proofs.Common.{◌≡◌, ℕ, ◌+◌, ◌≤◌, Bool, true, false, List, [], ◌∷◌, ◌++◌, Some, refl, sym, ap, subst, ◌∙◌, arith}
+use Rattle.std.proofs.Common.{◌≡◌, ℕ, ◌+◌, ◌≤◌, Bool, true, false, List, [], ◌∷◌, ◌++◌, Some, refl}
+use Rattle.std.proofs.Common.{sym, ap, subst, ◌∙◌, arith}
 use Rattle.std.proofs.lemmas.Bool.{lt-leb}
 use Rattle.std.specs.Prelude.{is_none, ◌||◌, if◌then◌else◌}
 use Rattle.job_types.specs.declared.job.Job.{Job}
 use Rattle.job_types.specs.Forlopps.{is_dead}
 use Rattle.job_types.specs.Waiting.{joins, pick}
 use Rattle.exchange_model.specs.declared.exchange.Exchange.{Exchange}
-use Rattle.source_meaning.specs.Arrivals.{arrivals, arrivals_of, arrives, comes, forlopp_for, is_due, is_quiet, next_after}
+use Rattle.source_meaning.specs.Arrivals.{arrivals, arrivals_of, arrives, comes, forlopp_for}
+use Rattle.source_meaning.specs.Arrivals.{is_due, is_quiet, next_after}
 use Rattle.exchange_model.specs.Names.{level_of}
 use Rattle.source_meaning.specs.State.{State, Coming, Lost, has_stopped}
 use Rattle.order_laws.specs.Keeps.{ArrivalsKeep, NoLineBefore, NoneDue}
@@ -19,7 +21,8 @@ not_due s j l e few =
     ap (λ b. b || is_quiet s.waiting) (lt-leb l.after s.ended (omega arith))
     ∙ ap (λ o. false || is_none o) e
 
-lines_quiet : (x : Exchange) (s : State) (j : Job) (lines : List Coming) → pick s.waiting ≡ Some j → NoLineBefore (s.ended + 1) lines → arrivals_of x lines s ≡ s
+lines_quiet : (x : Exchange) (s : State) (j : Job) (lines : List Coming) → pick s.waiting ≡ Some j
+    → NoLineBefore (s.ended + 1) lines → arrivals_of x lines s ≡ s
 unfolding arrivals_of
 lines_quiet x s j [] e few = refl
 lines_quiet x s j (l ∷ rest) e few = ap (λ b. if b then arrivals_of x rest (arrives x l rest s) else s) (not_due s j l e few)
@@ -51,7 +54,12 @@ arrivals_idle x s none = by (has_stopped s)
 come_left : (x : Exchange) (l : Coming) (forlopp : ℕ) (s : State) → (comes x l forlopp s).lines ≡ s.lines
 come_left x l forlopp s = by (is_dead s.dead forlopp)
   where
-    by : (dead : Bool) → (if dead then record s { events = s.events ++ Lost l.number ∷ [] } else record s { waiting = joins (record { entry = l.entry; level = level_of x l.entry; values = l.values; forlopp = forlopp }) s.waiting }).lines ≡ s.lines
+    by : (dead : Bool) → (if dead then record s { events = s.events ++ Lost l.number ∷ [] }
+        else record s {
+          waiting = joins (record
+              { entry = l.entry; level = level_of x l.entry; values = l.values; forlopp = forlopp }) s.waiting;
+        }).lines
+        ≡ s.lines
     by true = refl
     by false = refl
 
@@ -91,9 +99,25 @@ keep_all s = record { store = refl; chains = refl; dead = refl; ended = refl; re
 come_keeps : (x : Exchange) (l : Coming) (forlopp : ℕ) (s : State) → ArrivalsKeep s (comes x l forlopp s)
 come_keeps x l forlopp s = by (is_dead s.dead forlopp)
   where
-    by : (dead : Bool) → ArrivalsKeep s (if dead then record s { events = s.events ++ Lost l.number ∷ [] } else record s { waiting = joins (record { entry = l.entry; level = level_of x l.entry; values = l.values; forlopp = forlopp }) s.waiting })
+    by : (dead : Bool) → ArrivalsKeep s (if dead then record s { events = s.events ++ Lost l.number ∷ [] }
+        else record s {
+          waiting = joins (record
+              { entry = l.entry; level = level_of x l.entry; values = l.values; forlopp = forlopp }) s.waiting;
+        })
     by true = record { store = refl; chains = refl; dead = refl; ended = refl; restarts = refl; placed = λ h. h }
-    by false = record { store = refl; chains = refl; dead = refl; ended = refl; restarts = refl; placed = λ h. placed_join (record { entry = l.entry; level = level_of x l.entry; values = l.values; forlopp = forlopp }) s.waiting h }
+    by false = record {
+      store = refl;
+      chains = refl;
+      dead = refl;
+      ended = refl;
+      restarts = refl;
+      placed = λ h. placed_join (record {
+        entry = l.entry;
+        level = level_of x l.entry;
+        values = l.values;
+        forlopp = forlopp;
+      }) s.waiting h;
+    }
 
 arrive_keeps : (x : Exchange) (l : Coming) (rest : List Coming) (s : State) → ArrivalsKeep s (arrives x l rest s)
 arrive_keeps x l rest s =

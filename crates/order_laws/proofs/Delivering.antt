@@ -1,5 +1,5 @@
--- The sends of a job: a later job that they go behind keeps its turn, and they change nothing but who waits, the numbers that were
--- drawn and the events.
+-- The sends of a job: a later job that they go behind keeps its turn, and they change nothing but
+-- who waits, the numbers that were drawn and the events.
 use Rattle.std.proofs.Common.{◌≡◌, ℕ, ◌+◌, true, false, List, [], ◌∷◌, Some, refl, ap, ◌∙◌}
 use Rattle.std.specs.List.{AllByRecursion}
 use Rattle.job_types.specs.declared.job.Job.{Job}
@@ -25,8 +25,22 @@ pub record SendsKeep (s t : State) : Type 0 where
 
 send_keeps : (to : SendTo) (forlopp : ℕ) (values : List ℕ) (s : State) → SendsKeep s (delivered_to to forlopp values s)
 send_keeps (Outside signal) forlopp values s = record { chains = refl; ended = refl; restarts = refl; lines = refl; arrived = refl; placed = λ h. h }
-send_keeps (Queue entry level true) forlopp values s = record { chains = refl; ended = refl; restarts = refl; lines = refl; arrived = refl; placed = λ h. placed_join (record { entry = entry; level = level; values = values; forlopp = s.next }) s.waiting h }
-send_keeps (Queue entry level false) forlopp values s = record { chains = refl; ended = refl; restarts = refl; lines = refl; arrived = refl; placed = λ h. placed_join (record { entry = entry; level = level; values = values; forlopp = forlopp }) s.waiting h }
+send_keeps (Queue entry level true) forlopp values s = record {
+  chains = refl;
+  ended = refl;
+  restarts = refl;
+  lines = refl;
+  arrived = refl;
+  placed = λ h. placed_join (record { entry = entry; level = level; values = values; forlopp = s.next }) s.waiting h;
+}
+send_keeps (Queue entry level false) forlopp values s = record {
+  chains = refl;
+  ended = refl;
+  restarts = refl;
+  lines = refl;
+  arrived = refl;
+  placed = λ h. placed_join (record { entry = entry; level = level; values = values; forlopp = forlopp }) s.waiting h;
+}
 
 pub sends_keep : (forlopp : ℕ) (sends : List Sent) (s : State) → SendsKeep s (all_delivered forlopp sends s)
 sends_keep forlopp [] s = record { chains = refl; ended = refl; restarts = refl; lines = refl; arrived = refl; placed = λ h. h }
@@ -42,7 +56,8 @@ sends_keep forlopp (m ∷ rest) s =
       placed = λ h. more.placed (one.placed h);
     }
 
-send_stays : (j : Job) (to : SendTo) (forlopp : ℕ) (values : List ℕ) (s : State) → AllInPlace s.waiting → pick s.waiting ≡ Some j → GoesBehind j.level to → PickStays j (delivered_to to forlopp values) s
+send_stays : (j : Job) (to : SendTo) (forlopp : ℕ) (values : List ℕ) (s : State) → AllInPlace s.waiting
+    → pick s.waiting ≡ Some j → GoesBehind j.level to → PickStays j (delivered_to to forlopp values) s
 send_stays j (Outside signal) forlopp values s h e behind = record { picked = e; same = refl }
 send_stays j (Queue entry level true) forlopp values s h e behind =
     let k : Job = record { entry = entry; level = level; values = values; forlopp = s.next } in
@@ -53,7 +68,9 @@ send_stays j (Queue entry level false) forlopp values s h e behind =
     let one = join_stays j k s.waiting h e behind in
     record { picked = one.picked; same = ap (λ w. record s { waiting = w }) one.same }
 
-pub sends_stay : (j : Job) (forlopp : ℕ) (sends : List Sent) (s : State) → AllInPlace s.waiting → pick s.waiting ≡ Some j → AllByRecursion (λ (m : Sent). GoesBehind j.level m.to) sends → PickStays j (all_delivered forlopp sends) s
+pub sends_stay : (j : Job) (forlopp : ℕ) (sends : List Sent) (s : State) → AllInPlace s.waiting
+    → pick s.waiting ≡ Some j → AllByRecursion (λ (m : Sent). GoesBehind j.level m.to) sends
+    → PickStays j (all_delivered forlopp sends) s
 sends_stay j forlopp [] s h e behind = record { picked = e; same = refl }
 sends_stay j forlopp (m ∷ rest) s h e behind =
     let one = send_stays j m.to forlopp m.values s h e behind.0 in

@@ -11,7 +11,8 @@ use Rattle.job_types.specs.Forlopps.{chain_at, with_chain}
 use Rattle.job_types.proofs.ChainMaps.{chain_other}
 use Rattle.exchange_model.specs.declared.exchange.Exchange.{Exchange}
 use Rattle.source_meaning.specs.Config.{Config}
-use Rattle.source_meaning.specs.Retirement.{all_delivered, keeps_chain, releases, retires, with_outcome}
+use Rattle.source_meaning.specs.Retirement.{all_delivered, keeps_chain, releases, retires}
+use Rattle.source_meaning.specs.Retirement.{with_outcome}
 use Rattle.source_meaning.specs.SingleRun.{ended_as}
 use Rattle.source_meaning.specs.State.{State, chain_in}
 use Rattle.order_laws.specs.Ends.{AreOther, GoesOn}
@@ -64,7 +65,8 @@ pub chain_in_same : (s t : State) → t.chains ≡ s.chains → (n : ℕ) → ch
 chain_in_same s t same zero = refl
 chain_in_same s t same (suc n) = ap (λ m. chain_at m (suc n)) same
 
-other_chain : (s t : State) (k : ℕ) (chain : List Held) → t.chains ≡ with_chain s.chains (suc k) chain → (n : ℕ) → AreOther (suc k) n → chain_in t n ≡ chain_in s n
+other_chain : (s t : State) (k : ℕ) (chain : List Held) → t.chains ≡ with_chain s.chains (suc k) chain → (n : ℕ)
+    → AreOther (suc k) n → chain_in t n ≡ chain_in s n
 other_chain s t k chain is zero other = refl
 other_chain s t k chain is (suc n) other =
     ap (λ m. chain_at m (suc n)) is
@@ -84,7 +86,8 @@ outcome_runs x own Ended s goes = record { restarts = refl; chains = λ n other.
 outcome_runs x zero (Faulted f point) s goes = absurd (goes refl)
 outcome_runs x (suc k) (Faulted f point) s goes = record { restarts = refl; chains = other_chain s (releases x (suc k) f point s) k [] refl }
 
-pub retire_runs : (x : Exchange) (start : JobStart) (done : JobDone) (s : State) → GoesOn start.job.forlopp done.outcome → NoRestart start.job.forlopp s (retires x start done s)
+pub retire_runs : (x : Exchange) (start : JobStart) (done : JobDone) (s : State) → GoesOn start.job.forlopp done.outcome
+    → NoRestart start.job.forlopp s (retires x start done s)
 retire_runs x start done s goes =
     let f = start.job.forlopp in
     let t : State = record s { ended = s.ended + 1 } in
@@ -99,7 +102,8 @@ retire_runs x start done s goes =
       chains = λ n other. out.chains n other ∙ kept.chains n other ∙ chain_in_same s u sent.chains n;
     }
 
-pub end_runs : (x : Exchange) (start : JobStart) (end : Config) (s : State) → GoesOn start.job.forlopp (done_by end).outcome → NoRestart start.job.forlopp s (ended_as x start end s)
+pub end_runs : (x : Exchange) (start : JobStart) (end : Config) (s : State)
+    → GoesOn start.job.forlopp (done_by end).outcome → NoRestart start.job.forlopp s (ended_as x start end s)
 end_runs x start end s goes =
     let t : State = record s { store = end.world.store } in
     let one = retire_runs x start (done_by end) t goes in

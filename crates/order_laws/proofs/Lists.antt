@@ -1,6 +1,7 @@
--- The four lists of those who wait: who joins behind the pick, and what a release takes from behind it, change places with taking
--- the pick.
-use Rattle.std.proofs.Common.{◌≡◌, ℕ, ◌+◌, ◌≤◌, cond, List, [], ◌∷◌, Some, refl, sym, ap, ◌∙◌, subst, arith}
+-- The four lists of those who wait: who joins behind the pick, and what a release takes from behind
+-- it, change places with taking the pick.
+use Rattle.std.proofs.Common.{◌≡◌, ℕ, ◌+◌, ◌≤◌, cond, List, [], ◌∷◌, Some, refl, sym, ap, ◌∙◌}
+use Rattle.std.proofs.Common.{subst, arith}
 use Rattle.std.proofs.Math.Nat.{zero-add}
 use Rattle.std.proofs.lemmas.Bool.{ne_eqb}
 use Rattle.std.proofs.lemmas.List.Sums.{sum_by-cons}
@@ -10,11 +11,13 @@ use Rattle.std.specs.List.{AllByRecursion}
 use Rattle.plex_num.specs.declared.level.Level.{Level}
 use Rattle.plex_num.specs.declared.level.Level.TheVariants.{A, B, C, D}
 use Rattle.job_types.specs.declared.job.Job.{Job}
-use Rattle.job_types.specs.Waiting.{Waiting, after_pick, count_of, first_of, is_of, joins, last_at, others, others_in, pick, rest_of}
+use Rattle.job_types.specs.Waiting.{Waiting, after_pick, count_of, first_of, is_of, joins, last_at}
+use Rattle.job_types.specs.Waiting.{others, others_in, pick, rest_of}
 use Rattle.order_laws.specs.Ends.{rank}
 use Rattle.order_laws.specs.Picks.{AllInPlace, IsAt}
 
--- the job is the pick after this change of the lists too, and taking it out changes places with the change
+-- the job is the pick after this change of the lists too, and taking it out changes places with the
+-- change
 pub record ListsStay (j : Job) (change : Waiting → Waiting) (w : Waiting) : Type 0 where
   pub picked : pick (change w) ≡ Some j
   pub same : after_pick (change w) ≡ change (after_pick w)

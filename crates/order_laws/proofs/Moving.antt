@@ -1,5 +1,6 @@
 -- A window gets a job more, and its oldest job retires.
-use Rattle.std.proofs.Common.{◌≡◌, ℕ, ◌+◌, ◌≤◌, false, List, [], ◌∷◌, ◌++◌, length, Some, refl, sym, ap, ◌∙◌, subst, arith, length-append}
+use Rattle.std.proofs.Common.{◌≡◌, ℕ, ◌+◌, ◌≤◌, false, List, [], ◌∷◌, ◌++◌, length, Some, refl, sym}
+use Rattle.std.proofs.Common.{ap, ◌∙◌, subst, arith, length-append}
 use Rattle.std.specs.List.{AllByRecursion}
 use Rattle.plex_num.proofs.Lists.{all_append, all_weaker}
 use Rattle.job_types.specs.declared.job.JobStart.{JobStart}
@@ -17,7 +18,8 @@ use Rattle.source_meaning.specs.Valid.{IsFitting, IsValid}
 use Rattle.order_laws.specs.Ends.{GoesOn, LetsStay, Spares, words_left}
 use Rattle.order_laws.specs.Keeps.{NoLineBefore, NoRestart, RetirementKeeps}
 use Rattle.order_laws.specs.Picks.{Picks, all_begun}
-use Rattle.order_laws.specs.Windows.{AllMakeWay, AllRunBefore, IsWindow, MakesWay, RunBefore, StartsAs, done_by, jobs_of}
+use Rattle.order_laws.specs.Windows.{AllMakeWay, AllRunBefore, IsWindow, MakesWay, RunBefore}
+use Rattle.order_laws.specs.Windows.{StartsAs, done_by, jobs_of}
 use Rattle.order_laws.proofs.Arriving.{arrivals_quiet}
 use Rattle.order_laws.proofs.Keeping.{chain_in_same, end_keeps, end_runs}
 use Rattle.order_laws.proofs.Picking.{end_all_stay, picks_more, retire_all_stay}
@@ -37,7 +39,8 @@ spares_goes later own (Faulted f point) h = h.0
 
 -- a window gets a job more
 
-ways_more : (x : Exchange) (starts : List JobStart) (start : JobStart) → AllMakeWay x starts → AllByRecursion (λ (older : JobStart). MakesWay x older start) starts → AllMakeWay x (starts ++ start ∷ [])
+ways_more : (x : Exchange) (starts : List JobStart) (start : JobStart) → AllMakeWay x starts
+    → AllByRecursion (λ (older : JobStart). MakesWay x older start) starts → AllMakeWay x (starts ++ start ∷ [])
 ways_more x [] start ways new = (tt, tt)
 ways_more x (a ∷ rest) start ways new = (all_append (MakesWay x a) rest (start ∷ []) ways.0 (new.0, tt), ways_more x rest start ways.1 new.1)
 
@@ -49,8 +52,10 @@ runs_before : (s : State) (starts : List JobStart) → RunBefore s (length start
 runs_before s [] h = tt
 runs_before s (a ∷ rest) h = h
 
-pub window_grows : (x : Exchange) (s : State) (starts : List JobStart) (start : JobStart) → IsWindow x s starts → next_start (all_begun (jobs_of starts) s) ≡ Some start
-    → AllByRecursion (λ (older : JobStart). MakesWay x older start) starts → NoLineBefore (s.ended + length starts + 1) s.lines → IsWindow x s (starts ++ start ∷ [])
+pub window_grows : (x : Exchange) (s : State) (starts : List JobStart) (start : JobStart) → IsWindow x s starts
+    → next_start (all_begun (jobs_of starts) s) ≡ Some start
+    → AllByRecursion (λ (older : JobStart). MakesWay x older start) starts
+    → NoLineBefore (s.ended + length starts + 1) s.lines → IsWindow x s (starts ++ start ∷ [])
 window_grows x s starts start w is new none =
     let t = all_begun (jobs_of starts) s in
     let next = has_next t start is in
@@ -78,11 +83,13 @@ unbegun x s start h = record {
 same_begun : (s : State) (starts : List JobStart) → AllByRecursion (StartsAs s) starts → AllByRecursion (StartsAs (begun s)) starts
 same_begun s starts = all_weaker (StartsAs s) (StartsAs (begun s)) starts (λ a. starts_then s (begun s) a (chain_in_same s (begun s) refl a.job.forlopp))
 
-starts_fit : (x : Exchange) (starts : List JobStart) (s : State) → IsValid x s → has_stopped s ≡ false → Picks s.waiting (jobs_of starts) → AllByRecursion (StartsAs s) starts → AllByRecursion (IsFitting x s) starts
+starts_fit : (x : Exchange) (starts : List JobStart) (s : State) → IsValid x s → has_stopped s ≡ false
+    → Picks s.waiting (jobs_of starts) → AllByRecursion (StartsAs s) starts → AllByRecursion (IsFitting x s) starts
 starts_fit x [] s v going picked same = tt
 starts_fit x (a ∷ rest) s v going picked same = (
   start_fits x s a v (first_next s a going picked.0 same.0),
-  all_weaker (IsFitting x (begun s)) (IsFitting x s) rest (unbegun x s) (starts_fit x rest (begun s) (begun_valid x s v) going picked.1 (same_begun s rest same.1)),
+  all_weaker (IsFitting x (begun s)) (IsFitting x s) rest (unbegun x s)
+      (starts_fit x rest (begun s) (begun_valid x s v) going picked.1 (same_begun s rest same.1)),
 )
 
 pub window_fits : (x : Exchange) (s : State) (starts : List JobStart) → IsValid x s → IsWindow x s starts → AllByRecursion (IsFitting x s) starts
@@ -92,7 +99,8 @@ window_fits x s (a ∷ rest) v w = starts_fit x (a ∷ rest) s v w.before.going 
 pub window_none : (x : Exchange) (s : State) → IsWindow x s []
 window_none x s = record { picked = tt; same = tt; ways = tt; before = tt }
 
-pub window_first : (x : Exchange) (s : State) (oldest : JobStart) (rest : List JobStart) → IsWindow x s (oldest ∷ rest) → turn x s ≡ arrivals x (ended_as x oldest (job x oldest s.store) (begun s))
+pub window_first : (x : Exchange) (s : State) (oldest : JobStart) (rest : List JobStart) → IsWindow x s (oldest ∷ rest)
+    → turn x s ≡ arrivals x (ended_as x oldest (job x oldest s.store) (begun s))
 window_first x s oldest rest w = turn_is x s oldest (first_next s oldest w.before.going w.picked.0 w.same.0)
 
 -- the oldest job of a window retires
@@ -101,13 +109,16 @@ module _ (x : Exchange) (s : State) (v : IsValid x s) (oldest : JobStart) where
   retired = ended_as x oldest (job x oldest s.store) (begun s)
 
   module _ (is : next_start s ≡ Some oldest) where
-    lets_stay : (rest : List JobStart) → AllByRecursion (MakesWay x oldest) rest → AllByRecursion (LetsStay oldest (done_by (job x oldest s.store))) (jobs_of rest)
+    lets_stay : (rest : List JobStart) → AllByRecursion (MakesWay x oldest) rest
+        → AllByRecursion (LetsStay oldest (done_by (job x oldest s.store))) (jobs_of rest)
     lets_stay [] ways = tt
     lets_stay (a ∷ rest) ways = (ways.0.stays s v (start_fits x s oldest v is), lets_stay rest ways.1)
 
-    picked_then : (rest : List JobStart) → AllByRecursion (MakesWay x oldest) rest → Picks (begun s).waiting (jobs_of rest) → Picks retired.waiting (jobs_of rest)
+    picked_then : (rest : List JobStart) → AllByRecursion (MakesWay x oldest) rest
+        → Picks (begun s).waiting (jobs_of rest) → Picks retired.waiting (jobs_of rest)
     picked_then rest ways picked =
-        let all = end_all_stay x oldest (job x oldest s.store) (begun s) (jobs_of rest) (placed_rest s.waiting (placed_valid x s v)) picked (lets_stay rest ways) in
+        let all = end_all_stay x oldest (job x oldest s.store) (begun s) (jobs_of rest)
+        (placed_rest s.waiting (placed_valid x s v)) picked (lets_stay rest ways) in
         all.picked
 
     keeps : RetirementKeeps (begun s) retired
@@ -140,7 +151,9 @@ module _ (x : Exchange) (s : State) (v : IsValid x s) (oldest : JobStart) where
         same = same_then is goes (a ∷ rest) w.ways.0 w.same.1;
         ways = w.ways.1;
         before = record {
-          lines = subst (NoLineBefore (retired.ended + length (a ∷ rest))) (sym k.lines) (no_line_less (retired.ended + length (a ∷ rest)) (s.ended + length (oldest ∷ a ∷ rest)) s.lines fewer w.before.lines);
+          lines = subst (NoLineBefore (retired.ended + length (a ∷ rest))) (sym k.lines)
+              (no_line_less (retired.ended + length (a ∷ rest)) (s.ended + length (oldest ∷ a ∷ rest)) s.lines fewer
+              w.before.lines);
           going = (runs is goes).stopped ∙ w.before.going;
         };
       }
@@ -148,14 +161,16 @@ module _ (x : Exchange) (s : State) (v : IsValid x s) (oldest : JobStart) where
   -- it retires over other words, while all others have begun
   pub window_books : (rest : List JobStart) (words : List ℕ) → IsWindow x s (oldest ∷ rest)
       → retires x oldest (done_by (job x oldest s.store)) (over words (all_begun (jobs_of (oldest ∷ rest)) s))
-      ≡ over (words_left x oldest.job.forlopp (done_by (job x oldest s.store)).outcome (done_by (job x oldest s.store)).chain s.chains words) (all_begun (jobs_of rest) retired)
+      ≡ over (words_left x oldest.job.forlopp (done_by (job x oldest s.store)).outcome
+      (done_by (job x oldest s.store)).chain s.chains words) (all_begun (jobs_of rest) retired)
   window_books rest words w =
       let end = job x oldest s.store in
       let done = done_by end in
       let js = jobs_of rest in
       let later = all_begun js (begun s) in
       let left : List ℕ → List ℕ = words_left x oldest.job.forlopp done.outcome done.chain s.chains in
-      let all = retire_all_stay x oldest done (begun s) js (placed_rest s.waiting (placed_valid x s v)) w.picked.1 (lets_stay (window_next rest w) rest w.ways.0) in
+      let all = retire_all_stay x oldest done (begun s) js (placed_rest s.waiting (placed_valid x s v)) w.picked.1
+      (lets_stay (window_next rest w) rest w.ways.0) in
       retire_over x oldest done later words
       ∙ ap (over (left words)) (sym all.same)
       ∙ ap (λ (t : State). over (left words) (all_begun js t)) (sym (retire_over x oldest done (begun s) end.world.store))
@@ -167,4 +182,6 @@ module _ (x : Exchange) (s : State) (v : IsValid x s) (oldest : JobStart) where
       let left = window_retired (next ∷ rest) w in
       let fewer : retired.ended + 1 ≤ retired.ended + length (next ∷ rest) = omega arith in
       turn_is x s oldest is
-      ∙ arrivals_quiet x retired next.job left.picked.0 (no_line_less (retired.ended + 1) (retired.ended + length (next ∷ rest)) retired.lines fewer left.before.lines)
+      ∙ arrivals_quiet x retired next.job left.picked.0
+      (no_line_less (retired.ended + 1) (retired.ended + length (next ∷ rest)) retired.lines fewer
+      left.before.lines)

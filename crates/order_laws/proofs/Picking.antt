@@ -17,7 +17,8 @@ use Rattle.order_laws.proofs.Delivering.{sends_stay}
 use Rattle.order_laws.proofs.Placing.{placed_rest}
 use Rattle.order_laws.proofs.Releasing.{chain_stays, outcome_stays}
 
-pub retire_stays : (x : Exchange) (start : JobStart) (done : JobDone) (s : State) (j : Job) → AllInPlace s.waiting → pick s.waiting ≡ Some j → LetsStay start done j → PickStays j (retires x start done) s
+pub retire_stays : (x : Exchange) (start : JobStart) (done : JobDone) (s : State) (j : Job) → AllInPlace s.waiting
+    → pick s.waiting ≡ Some j → LetsStay start done j → PickStays j (retires x start done) s
 retire_stays x start done s j h e lets =
     let f = start.job.forlopp in
     let t : State = record s { ended = s.ended + 1 } in
@@ -27,7 +28,8 @@ retire_stays x start done s j h e lets =
     let out = outcome_stays x j f done.outcome (keeps_chain f done.chain u) kept.picked lets.outcome in
     record { picked = out.picked; same = out.same ∙ ap (with_outcome x f done.outcome) (kept.same ∙ ap (keeps_chain f done.chain) sent.same) }
 
-pub end_stays : (x : Exchange) (start : JobStart) (end : Config) (s : State) (j : Job) → AllInPlace s.waiting → pick s.waiting ≡ Some j → LetsStay start (done_by end) j → PickStays j (ended_as x start end) s
+pub end_stays : (x : Exchange) (start : JobStart) (end : Config) (s : State) (j : Job) → AllInPlace s.waiting
+    → pick s.waiting ≡ Some j → LetsStay start (done_by end) j → PickStays j (ended_as x start end) s
 end_stays x start end s j h e lets =
     let one = retire_stays x start (done_by end) (record s { store = end.world.store }) j h e lets in
     record { picked = one.picked; same = one.same }
@@ -49,10 +51,13 @@ all_retire_stay : (x : Exchange) (start : JobStart) (done : JobDone) (js : List 
 all_retire_stay x start done [] lets = tt
 all_retire_stay x start done (j ∷ js) lets = ((λ t h e. retire_stays x start done t j h e lets.0), all_retire_stay x start done js lets.1)
 
-pub retire_all_stay : (x : Exchange) (start : JobStart) (done : JobDone) (s : State) (js : List Job) → AllInPlace s.waiting → Picks s.waiting js → AllByRecursion (LetsStay start done) js → PicksStay js (retires x start done) s
+pub retire_all_stay : (x : Exchange) (start : JobStart) (done : JobDone) (s : State) (js : List Job)
+    → AllInPlace s.waiting → Picks s.waiting js → AllByRecursion (LetsStay start done) js
+    → PicksStay js (retires x start done) s
 retire_all_stay x start done s js h picked lets = all_stay (retires x start done) js s h picked (all_retire_stay x start done js lets)
 
-pub end_all_stay : (x : Exchange) (start : JobStart) (end : Config) (s : State) (js : List Job) → AllInPlace s.waiting → Picks s.waiting js → AllByRecursion (LetsStay start (done_by end)) js → PicksStay js (ended_as x start end) s
+pub end_all_stay : (x : Exchange) (start : JobStart) (end : Config) (s : State) (js : List Job) → AllInPlace s.waiting
+    → Picks s.waiting js → AllByRecursion (LetsStay start (done_by end)) js → PicksStay js (ended_as x start end) s
 end_all_stay x start end s js h picked lets =
     let all = retire_all_stay x start (done_by end) (record s { store = end.world.store }) js h picked lets in
     record { picked = all.picked; same = all.same }

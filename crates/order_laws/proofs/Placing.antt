@@ -6,7 +6,8 @@ use Rattle.plex_num.specs.declared.level.Level.{Level}
 use Rattle.plex_num.specs.declared.level.Level.TheVariants.{A, B, C, D}
 use Rattle.plex_num.proofs.Lists.{all_append, all_weaker}
 use Rattle.job_types.specs.declared.job.Job.{Job}
-use Rattle.job_types.specs.Waiting.{Waiting, after_pick, joins, last_at, nobody, others, others_in, rest_of}
+use Rattle.job_types.specs.Waiting.{Waiting, after_pick, joins, last_at, nobody, others, others_in}
+use Rattle.job_types.specs.Waiting.{rest_of}
 use Rattle.exchange_model.specs.declared.exchange.Exchange.{Exchange}
 use Rattle.source_meaning.specs.State.{State}
 use Rattle.source_meaning.specs.Valid.{IsValid, WaitsAt}
@@ -21,7 +22,8 @@ placed_join k w h = by k.level refl
     by C at = record { a = h.a; b = h.b; c = all_append (IsAt C) w.c (k ∷ []) h.c (at, tt); d = h.d }
     by D at = record { a = h.a; b = h.b; c = h.c; d = all_append (IsAt D) w.d (k ∷ []) h.d (at, tt) }
 
-rest_placed : (a b c d : List Job) → AllByRecursion (IsAt A) a → AllByRecursion (IsAt B) b → AllByRecursion (IsAt C) c → AllByRecursion (IsAt D) d → AllInPlace (rest_of a b c d)
+rest_placed : (a b c d : List Job) → AllByRecursion (IsAt A) a → AllByRecursion (IsAt B) b → AllByRecursion (IsAt C) c
+    → AllByRecursion (IsAt D) d → AllInPlace (rest_of a b c d)
 rest_placed (x ∷ xs) b c d ha hb hc hd = record { a = ha.1; b = hb; c = hc; d = hd }
 rest_placed [] (x ∷ xs) c d ha hb hc hd = record { a = tt; b = hb.1; c = hc; d = hd }
 rest_placed [] [] (x ∷ xs) d ha hb hc hd = record { a = tt; b = tt; c = hc.1; d = hd }

@@ -31,7 +31,8 @@ with_release x forlopp f point s w count = record (releases x forlopp f point s)
   events = s.events ++ Release forlopp s.ended f point count (length (chain_at s.chains forlopp)) ∷ [];
 }
 
-release_stays : (x : Exchange) (j : Job) (forlopp : ℕ) (f : Fault) (point : ℕ) (s : State) → j.forlopp ≢ forlopp → pick s.waiting ≡ Some j → PickStays j (releases x forlopp f point) s
+release_stays : (x : Exchange) (j : Job) (forlopp : ℕ) (f : Fault) (point : ℕ) (s : State) → j.forlopp ≢ forlopp
+    → pick s.waiting ≡ Some j → PickStays j (releases x forlopp f point) s
 release_stays x j forlopp f point s other e =
     let stay = others_stay j forlopp s.waiting other e in
     record {
@@ -39,7 +40,8 @@ release_stays x j forlopp f point s other e =
       same = ap₂ (with_release x forlopp f point s) stay.lists.same (sym stay.count);
     }
 
-pub outcome_stays : (x : Exchange) (j : Job) (forlopp : ℕ) (o : Outcome) (s : State) → pick s.waiting ≡ Some j → Spares j.forlopp forlopp o → PickStays j (with_outcome x forlopp o) s
+pub outcome_stays : (x : Exchange) (j : Job) (forlopp : ℕ) (o : Outcome) (s : State) → pick s.waiting ≡ Some j
+    → Spares j.forlopp forlopp o → PickStays j (with_outcome x forlopp o) s
 outcome_stays x j forlopp Ended s e spares = record { picked = e; same = refl }
 outcome_stays x j zero (Faulted f point) s e spares = absurd (spares.0 refl)
 outcome_stays x j (suc n) (Faulted f point) s e spares = release_stays x j (suc n) f point s (λ same. spares.1 (sym same)) e

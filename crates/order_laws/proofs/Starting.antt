@@ -1,5 +1,6 @@
 -- The start of the next job: what it takes for a state to have it.
-use Rattle.std.proofs.Common.{◌≡◌, ℕ, ◌<◌, Bool, true, false, List, Option, Some, None, refl, sym, ap, ◌∙◌}
+use Rattle.std.proofs.Common.{◌≡◌, ℕ, ◌<◌, Bool, true, false, List, Option, Some, None, refl, sym}
+use Rattle.std.proofs.Common.{ap, ◌∙◌}
 use Rattle.std.proofs.lemmas.Bool.{lt-leb}
 use Rattle.std.proofs.lemmas.Option.{none-some, same_Some}
 use Rattle.std.specs.Prelude.{nat_le, is_none, if◌then◌else◌}
@@ -11,7 +12,8 @@ use Rattle.job_types.specs.Waiting.{pick}
 use Rattle.exchange_model.specs.declared.exchange.Exchange.{Exchange}
 use Rattle.source_meaning.specs.Arrivals.{arrivals, is_quiet}
 use Rattle.source_meaning.specs.Job.{job}
-use Rattle.source_meaning.specs.SingleRun.{Restarted, Finished, Limited, begun, ended_as, ending_at, next_start, start_of, turn}
+use Rattle.source_meaning.specs.SingleRun.{Restarted, Finished, Limited, begun, ended_as, ending_at}
+use Rattle.source_meaning.specs.SingleRun.{next_start, start_of, turn}
 use Rattle.source_meaning.specs.State.{State, chain_in, has_stopped}
 use Rattle.order_laws.specs.Windows.{StartsAs}
 use Rattle.order_laws.proofs.Keeping.{chain_in_same}
@@ -32,7 +34,8 @@ first_next s start going picked is =
     ∙ ap (option_map (λ j. start_of j s)) picked
     ∙ ap Some (sym is)
 
-pub turn_is : (x : Exchange) (s : State) (start : JobStart) → next_start s ≡ Some start → turn x s ≡ arrivals x (ended_as x start (job x start s.store) (begun s))
+pub turn_is : (x : Exchange) (s : State) (start : JobStart) → next_start s ≡ Some start
+    → turn x s ≡ arrivals x (ended_as x start (job x start s.store) (begun s))
 turn_is x s start is = ap (λ o. option_map_or (λ (a : JobStart). arrivals x (ended_as x a (job x a s.store) (begun s))) o s) is
 
 -- a job that has a next start waits, and the last restart has not come

@@ -1,5 +1,6 @@
 -- The jobs of a window are those that the single run begins next.
-use Rattle.std.proofs.Common.{◌≡◌, ℕ, zero, suc, ◌+◌, ◌<◌, ◌≤◌, List, [], ◌∷◌, length, Some, None, slice_get, refl, sym, ap, ◌∙◌, subst, arith}
+use Rattle.std.proofs.Common.{◌≡◌, ℕ, zero, suc, ◌+◌, ◌<◌, ◌≤◌, List, [], ◌∷◌, length, Some, None}
+use Rattle.std.proofs.Common.{slice_get, refl, sym, ap, ◌∙◌, subst, arith}
 use Rattle.std.proofs.lemmas.Option.{none-some, slice_get_within}
 use Rattle.job_types.specs.declared.job.JobStart.{JobStart}
 use Rattle.exchange_model.specs.declared.exchange.Exchange.{Exchange}
@@ -48,7 +49,8 @@ after_more x s m (suc n) =
     ∙ sym (turns_last x n (after x s m))
 
 -- each job of a window begins in its turn
-pub window_turn : (x : Exchange) → IsExchange x → (starts : List JobStart) (s : State) (n : ℕ) (start : JobStart) → IsValid x s → IsWindow x s starts → slice_get starts n ≡ Some start → IsTurnOf x s starts n start
+pub window_turn : (x : Exchange) → IsExchange x → (starts : List JobStart) (s : State) (n : ℕ) (start : JobStart)
+    → IsValid x s → IsWindow x s starts → slice_get starts n ≡ Some start → IsTurnOf x s starts n start
 unfolding turns
 window_turn x kept [] s n start v w at = absurd (none-some start at)
 window_turn x kept (a ∷ rest) s zero start v w at = record {
@@ -72,7 +74,9 @@ window_turn x kept (a ∷ b ∷ rest) s (suc n) start v w at =
       left = more.left;
     }
 
-pub window_limit : (x : Exchange) → IsExchange x → (starts : List JobStart) (s : State) (n : ℕ) (start : JobStart) (limit : ℕ) → IsValid x s → IsWindow x s starts → slice_get starts n ≡ Some start
+pub window_limit : (x : Exchange) → IsExchange x
+    → (starts : List JobStart) (s : State) (n : ℕ) (start : JobStart) (limit : ℕ) → IsValid x s → IsWindow x s starts
+    → slice_get starts n ≡ Some start
     → s.ended + length starts ≤ limit → ending_at limit (turns x s n) ≡ None
 window_limit x kept starts s n start limit v w at few =
     let here = window_turn x kept starts s n start v w at in

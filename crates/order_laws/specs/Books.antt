@@ -10,9 +10,10 @@ use Rattle.source_meaning.specs.Valid.{MayBe}
 use Rattle.order_laws.specs.Picks.{all_begun}
 use Rattle.order_laws.specs.Windows.{IsWindow, jobs_of}
 
--- in these books the jobs of a window have begun, and none of them has retired: they are those of the single run's state, but for
--- the stored words, of which nothing is said
-pub record AreAhead (x : Exchange) (s : State) (starts : List JobStart) (books : State) : Type 0 where
+-- in these books the jobs of a window have begun, and none of them has retired: they are those of
+-- the single run's state, but for the stored words, of which nothing is said
+pub record AreAhead (x : Exchange) (s : State) (starts : List JobStart) (books : State) : Type
+    0 where
   pub window : IsWindow x s starts
   pub same : books ≡ record (all_begun (jobs_of starts) s) { store = books.store }
 

@@ -48,9 +48,11 @@ pub record LetsStay (start : JobStart) (done : JobDone) (later : Job) : Type 0 w
 abbrev pub AreOther : ℕ → ℕ → Type 0
 AreOther own later = own ≡ later → own ≡ 0
 
--- the stored words after a job of this forlopp has ended so, with this chain, while the forlopps hold these chains: a release gives
--- back what the job held, and a restart what all hold
+-- the stored words after a job of this forlopp has ended so, with this chain, while the forlopps
+-- hold these chains: a release gives back what the job held, and a restart what all hold
 abbrev pub words_left : Exchange → ℕ → Outcome → List Held → ChainMap → List ℕ → List ℕ
 words_left x own Ended chain chains words = words
-words_left x zero (Faulted f point) chain chains words = (restart_world x chains (untouched words)).store
-words_left x (suc n) (Faulted f point) chain chains words = (release_world x chain (untouched words)).store
+words_left x zero (Faulted f point) chain chains words =
+    (restart_world x chains (untouched words)).store
+words_left x (suc n) (Faulted f point) chain chains words =
+    (release_world x chain (untouched words)).store

@@ -1,5 +1,5 @@
--- A window: jobs that were picked one after the other from a state of the single run, where each older one lets each younger one
--- keep its turn.
+-- A window: jobs that were picked one after the other from a state of the single run, where each
+-- older one lets each younger one keep its turn.
 use Rattle.std.specs.Prelude.{◌≡◌, ℕ, zero, suc, ◌+◌, false, List, [], ◌∷◌, length, drop, map, Some}
 use Rattle.std.specs.List.{AllByRecursion}
 use Rattle.job_types.specs.declared.job.Job.{Job}
@@ -20,10 +20,12 @@ use Rattle.order_laws.specs.Picks.{Picks}
 abbrev pub done_by : Config → JobDone
 done_by end = done_of end.own end.over
 
--- wherever the older job may begin, its end lets the younger one keep its turn, and they are of two forlopps
+-- wherever the older job may begin, its end lets the younger one keep its turn, and they are of two
+-- forlopps
 pub record MakesWay (x : Exchange) (older younger : JobStart) : Type 0 where
   pub forlopps : AreOther older.job.forlopp younger.job.forlopp
-  pub stays : (s : State) → IsValid x s → IsFitting x s older → LetsStay older (done_by (job x older s.store)) younger.job
+  pub stays : (s : State) → IsValid x s → IsFitting x s older
+      → LetsStay older (done_by (job x older s.store)) younger.job
 
 -- each older one to each younger one, the oldest first
 abbrev pub AllMakeWay : Exchange → List JobStart → Type 0
@@ -59,8 +61,10 @@ unfoldable pub turns : Exchange → State → ℕ → State
 turns x s zero = s
 turns x s (suc n) = turns x (turn x s) n
 
--- so many jobs later the single run begins with this start, one of a window, and those that are left are a window
-pub record IsTurnOf (x : Exchange) (s : State) (starts : List JobStart) (n : ℕ) (start : JobStart) : Type 0 where
+-- so many jobs later the single run begins with this start, one of a window, and those that are
+-- left are a window
+pub record IsTurnOf (x : Exchange) (s : State) (starts : List JobStart) (n : ℕ)
+    (start : JobStart) : Type 0 where
   pub next : next_start (turns x s n) ≡ Some start
   pub ended : (turns x s n).ended ≡ s.ended + n
   pub lines : (turns x s n).lines ≡ s.lines

@@ -25,9 +25,10 @@ ghost use Rattle.order_laws.specs.Picks.{AllInPlace, PickStays, Picks, PicksStay
 ghost use Rattle.order_laws.specs.Picks.{all_begun};
 ghost use Rattle.order_laws.specs.Windows.{IsTurnOf, IsWindow, MakesWay, done_by, jobs_of, turns};
 
-/// Where an older job retires that lets a later one keep its turn, the later one is next as before, and its beginning and the
-/// retirement change places: both orders lead to the same state. So it is of several later jobs, one after the other. It does where
-/// all that it sends goes behind the later one, its end is no restart, and they are not of one forlopp.
+/// Where an older job retires that lets a later one keep its turn, the later one is next as before,
+/// and its beginning and the retirement change places: both orders lead to the same state. So it is
+/// of several later jobs, one after the other. It does where all that it sends goes behind the
+/// later one, its end is no restart, and they are not of one forlopp.
 pub fn picks_stay()
     ensures lets { (start : JobStart) (done : JobDone) (later : Job)
         → AllByRecursion (λ (m : Sent). GoesBehind later.level m.to) done.sends
@@ -64,8 +65,9 @@ pub fn jobs_stay_in_place()
         → AllInPlace s.waiting → AllInPlace (all_begun js s).waiting }
 {}
 
-/// Nothing arrives while a job waits and fewer jobs have ended than the next line waits for, nor after the last restart, nor where
-/// no line is due, which is so after arrivals. What arrives changes no word, chain or count, and joins the list of its level.
+/// Nothing arrives while a job waits and fewer jobs have ended than the next line waits for, nor
+/// after the last restart, nor where no line is due, which is so after arrivals. What arrives
+/// changes no word, chain or count, and joins the list of its level.
 pub fn arrivals_keep_the_order()
     ensures quiet { (x : Exchange) (s : State) (j : Job)
         → pick s.waiting ≡ Some j → NoLineBefore (s.ended + 1) s.lines → arrivals x s ≡ s }
@@ -76,8 +78,8 @@ pub fn arrivals_keep_the_order()
     ensures kept { (x : Exchange) (s : State) → ArrivalsKeep s (arrivals x s) }
 {}
 
-/// A retirement counts one job, brings no line, and leaves each job in the list of its level; one that is no restart changes no
-/// chain but that of its own forlopp.
+/// A retirement counts one job, brings no line, and leaves each job in the list of its level; one
+/// that is no restart changes no chain but that of its own forlopp.
 pub fn retirements_keep()
     ensures always { (x : Exchange) (start : JobStart) (done : JobDone) (s : State)
         → RetirementKeeps s (retires x start done s) }
@@ -91,8 +93,9 @@ pub fn retirements_keep()
         → NoRestart start.job.forlopp s (ended_as x start end s) }
 {}
 
-/// A retirement changes all but the stored words whatever these are, and the words by the job's chain alone, or where it restarts
-/// the exchange by all chains. Arrivals and the next start are the same over any words.
+/// A retirement changes all but the stored words whatever these are, and the words by the job's
+/// chain alone, or where it restarts the exchange by all chains. Arrivals and the next start are
+/// the same over any words.
 pub fn words_are_apart()
     ensures retired { (x : Exchange) (start : JobStart) (done : JobDone) (s : State)
         (words : List ℕ)
@@ -106,9 +109,9 @@ pub fn words_are_apart()
         → next_start (record s { store = words }) ≡ next_start s }
 {}
 
-/// The jobs of a window are those that the single run begins next, one after the other, each with the start that it has in the
-/// window, and before any limit that is not below the jobs that have ended and the window's. While others of the window wait,
-/// nothing arrives.
+/// The jobs of a window are those that the single run begins next, one after the other, each with
+/// the start that it has in the window, and before any limit that is not below the jobs that have
+/// ended and the window's. While others of the window wait, nothing arrives.
 pub fn windows_run()
     ensures turn { (x : Exchange) (s : State) (starts : List JobStart) (n : ℕ) (start : JobStart)
         → IsExchange x → IsValid x s → IsWindow x s starts → slice_get starts n ≡ Some start
@@ -133,9 +136,10 @@ pub fn windows_run()
         → turn x s ≡ ended_as x oldest (job x oldest s.store) (begun s) }
 {}
 
-/// No start is a window, and a window gets the next start more where all in it make way to it and it retires before the next line
-/// comes. When the oldest job has retired, the others are a window; and to retire it while all of them have begun, over whatever
-/// words, comes to the same, but for the words. Each start of a window fits the state.
+/// No start is a window, and a window gets the next start more where all in it make way to it and
+/// it retires before the next line comes. When the oldest job has retired, the others are a window;
+/// and to retire it while all of them have begun, over whatever words, comes to the same, but for
+/// the words. Each start of a window fits the state.
 pub fn windows_move()
     ensures none { (x : Exchange) (s : State) → IsWindow x s [] }
     ensures grows { (x : Exchange) (s : State) (starts : List JobStart) (start : JobStart)
@@ -160,11 +164,12 @@ pub fn windows_move()
         → IsValid x s → IsWindow x s starts → AllByRecursion (IsFitting x s) starts }
 {}
 
-/// The books of an exchange that keeps several jobs at once are those of the single run, but that the jobs of the window have begun.
-/// So they are where none has begun, over whatever words, and when another job begins that the books have next, to which all in the
-/// window make way, and which retires before the next line comes. When the oldest retires, with the end that it has in the single
-/// run, they are those of the single run a turn later: its words change as in the single run, and the forlopps of all that have begun
-/// live.
+/// The books of an exchange that keeps several jobs at once are those of the single run, but that
+/// the jobs of the window have begun. So they are where none has begun, over whatever words, and
+/// when another job begins that the books have next, to which all in the window make way, and which
+/// retires before the next line comes. When the oldest retires, with the end that it has in the
+/// single run, they are those of the single run a turn later: its words change as in the single
+/// run, and the forlopps of all that have begun live.
 pub fn books_follow()
     ensures none { (x : Exchange) (s : State) (words : List ℕ)
         → AreAhead x s [] (record s { store = words }) }

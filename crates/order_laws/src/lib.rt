@@ -1,8 +1,9 @@
-// The order of the single run: which retirements change places with taking later jobs, and what stays until then.
+// The order of the single run: which retirements change places with taking later jobs, and what
+// stays until then.
 //
-// What goes in are definitions: the states of the single run, its retirements, arrivals and turns. What comes out are laws, as
-// public functions without a body. There is no code, and nothing is known of the analysis by which jobs are found that may run
-// at once, nor of what runs them.
+// What goes in are definitions: the states of the single run, its retirements, arrivals and turns.
+// What comes out are laws, as public functions without a body. There is no code, and nothing is
+// known of the analysis by which jobs are found that may run at once, nor of what runs them.
 #![tactic(auto)]
 
 mod laws;

@@ -64,17 +64,21 @@ module _ (x : Exchange) (facts : List Fact) (s : State) (first later : Summary) 
   pub later_alone : (ts us : List Touch) → ArePermitted x first a s.chains ts → ArePermitted x later b s.chains us → LeavesAlone us ts
   later_alone = touching.later_alone x s first later a b are_beside
 
-  pub release_apart : first.fault ≡ true → (held : List Held) (store : List ℕ) (w : ℕ) → AllByRecursion (IsRecord x) held → MayHoldAll first a s.chains held → MayRead x later b s.chains w → NoStore w (release_world x held (untouched store)).trace
+  pub release_apart : first.fault ≡ true → (held : List Held) (store : List ℕ) (w : ℕ)
+      → AllByRecursion (IsRecord x) held → MayHoldAll first a s.chains held → MayRead x later b s.chains w
+      → NoStore w (release_world x held (untouched store)).trace
   release_apart = releasing.release_apart x s first later a b are_beside
 
-module _ (x : Exchange) (facts : List Fact) (s : State) (first later : Summary) (a b : JobStart) (chains : ChainMap) (h : MayRunAtOnce x facts s first later a b) (leaves : LeavesChains first a s.chains chains) where
+module _ (x : Exchange) (facts : List Fact) (s : State) (first later : Summary) (a b : JobStart) (chains : ChainMap)
+    (h : MayRunAtOnce x facts s first later a b) (leaves : LeavesChains first a s.chains chains) where
   pub reads_stay : (w : ℕ) → MayRead x later b s.chains w ↔ MayRead x later b chains w
   reads_stay = staying.reads_stay x s first later a b chains (are_beside x facts s first later a b h) leaves
 
   pub writes_stay : (w : ℕ) → MayWrite x later b s.chains w ↔ MayWrite x later b chains w
   writes_stay = staying.writes_stay x s first later a b chains (are_beside x facts s first later a b h) leaves
 
-module _ (x : Exchange) (facts : List Fact) (s : State) (first later : Summary) (a b : JobStart) (done : JobDone) (h : MayRunAtOnce x facts s first later a b) (d : IsDoneBy x first a s.chains done) where
+module _ (x : Exchange) (facts : List Fact) (s : State) (first later : Summary) (a b : JobStart) (done : JobDone)
+    (h : MayRunAtOnce x facts s first later a b) (d : IsDoneBy x first a s.chains done) where
   pub retired_store : (t : State) → (retires x a done t).store ≡ stored t.store (retirement_touches x done)
   retired_store = storing.retired_store x s first later a b done (are_beside x facts s first later a b h) d
 

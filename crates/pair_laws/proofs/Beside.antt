@@ -1,5 +1,7 @@
--- No cell that one of two jobs may write is one that the other may read, by any summaries that let them pass.
-use Rattle.std.proofs.Common.{◌≡◌, ◌≢◌, inl, inr, ℕ, zero, suc, ◌<◌, ◌≤◌, Bool, true, ◌||◌, refl, sym, ◌∙◌, subst, arith}
+-- No cell that one of two jobs may write is one that the other may read, by any summaries that let
+-- them pass.
+use Rattle.std.proofs.Common.{◌≡◌, ◌≢◌, inl, inr, ℕ, zero, suc, ◌<◌, ◌≤◌, Bool, true, ◌||◌, refl}
+use Rattle.std.proofs.Common.{sym, ◌∙◌, subst, arith}
 use Rattle.std.specs.List.{Contains}
 use Rattle.std.proofs.lemmas.Bool.{cases_lt, both_ways, false≢true, or_right}
 use Rattle.plex_num.specs.declared.level.Level.{Level}
@@ -22,7 +24,9 @@ use Rattle.entry_summary.specs.declared.summary.Summary.{Summary}
 use Rattle.entry_summary.specs.Orders.{level_number}
 use Rattle.pair_tests.specs.declared.pair.Conflict.TheVariants as conflict
 use Rattle.pair_tests.specs.declared.pair.Test.TheVariants as test
-use Rattle.pair_tests.specs.Pairs.{Passes, ShareField, both_seize, later_frees, first_frees, on_variable, on_field, on_file, on_level, two_values, first_value, later_value, in_forlopp, holds_none}
+use Rattle.pair_tests.specs.Pairs.{Passes, ShareField, both_seize, later_frees, first_frees}
+use Rattle.pair_tests.specs.Pairs.{on_variable, on_field, on_file, on_level, two_values}
+use Rattle.pair_tests.specs.Pairs.{first_value, later_value, in_forlopp, holds_none}
 use Rattle.start_permit.specs.Granted.{IsFree, MayHold, MayRead, MayWrite, Selects}
 use Rattle.pair_laws.proofs.Naming.{kinds_apart}
 use Rattle.pair_laws.proofs.Cells.{AllFit, CellLet, WordLet, read, written}
@@ -34,11 +38,14 @@ held_in s zero file number h = absurd (false≢true h)
 held_in s (suc n) file number h = (λ none. (let e : suc n ≡ 0 = none in omega (arith, e)), h)
 
 -- a record that a job holds at its start stands in the chain of its forlopp
-pub held_at_start : (x : Exchange) (s : State) (start : JobStart) (file number : ℕ) → IsFitting x s start → holds start.chain file number ≡ true → (start.job.forlopp ≢ 0) × (holds (chain_at s.chains start.job.forlopp) file number ≡ true)
+pub held_at_start : (x : Exchange) (s : State) (start : JobStart) (file number : ℕ) → IsFitting x s start
+    → holds start.chain file number ≡ true → (start.job.forlopp ≢ 0)
+    × (holds (chain_at s.chains start.job.forlopp) file number ≡ true)
 held_at_start x s start file number fit h = held_in s start.job.forlopp file number (subst (λ chain. holds chain file number ≡ true) fit.chain h)
 
 -- and is not free
-pub held_not_free : (x : Exchange) (s : State) (start : JobStart) (file number : ℕ) → IsFitting x s start → holds start.chain file number ≡ true → IsFree s.chains file number → ⊥
+pub held_not_free : (x : Exchange) (s : State) (start : JobStart) (file number : ℕ) → IsFitting x s start
+    → holds start.chain file number ≡ true → IsFree s.chains file number → ⊥
 held_not_free x s start file number fit h free =
     both_ways (holds (chain_at s.chains start.job.forlopp) file number) (free start.job.forlopp) (held_at_start x s start file number fit h).1
 
@@ -58,7 +65,8 @@ module _ (first later : Summary) (a b : JobStart) where
         | inr ge ↦ ge
       ]
 
--- two jobs that pass by summaries of which each access is one of the exchange, and whose starts fit a state
+-- two jobs that pass by summaries of which each access is one of the exchange, and whose starts fit
+-- a state
 pub record AreBeside (x : Exchange) (s : State) (first later : Summary) (a b : JobStart) : Type 0 where
   pub state : IsValid x s
   pub first_fits : IsFitting x s a
@@ -110,7 +118,8 @@ module _ (x : Exchange) (s : State) (first later : Summary) (a b : JobStart) (h 
   fields_apart number n (Arg k) (Const c) share p q = h.passes.tests (test.FirstNot k c) (first_value number k c share) (sym p ∙ q)
   fields_apart number n (Const c) Any share p q = h.passes.apart (conflict.Field number (Const c) Any) (on_field number (Const c) Any share tt)
   fields_apart number n (Const c) (Arg l) share p q = h.passes.tests (test.LaterNot l c) (later_value number l c share) (sym q ∙ p)
-  fields_apart number n (Const c) (Const d) share p q = h.passes.apart (conflict.Field number (Const c) (Const d)) (on_field number (Const c) (Const d) share (sym p ∙ q))
+  fields_apart number n (Const c) (Const d) share p q = h.passes.apart (conflict.Field number (Const c) (Const d))
+      (on_field number (Const c) (Const d) share (sym p ∙ q))
 
   -- cells
 
@@ -152,7 +161,8 @@ module _ (x : Exchange) (s : State) (first later : Summary) (a b : JobStart) (h 
   writes_apart w p q = (let r = read x later b s.chains w h.later_fit q in word_apart true r.write refl w (written x first a s.chains w h.first_fit p) r.lets)
 
   pub reads_apart : (w : ℕ) → MayRead x first a s.chains w → MayWrite x later b s.chains w → ⊥
-  reads_apart w p q = (let r = read x first a s.chains w h.first_fit p in word_apart r.write true (or_right r.write true refl) w r.lets (written x later b s.chains w h.later_fit q))
+  reads_apart w p q = (let r = read x first a s.chains w h.first_fit p in word_apart r.write true
+      (or_right r.write true refl) w r.lets (written x later b s.chains w h.later_fit q))
 
   -- a fault, and levels
 

@@ -8,11 +8,13 @@ use Rattle.exchange_model.specs.declared.entry.Cell.{Cell}
 use Rattle.exchange_model.specs.declared.entry.Cell.TheVariants as cell
 use Rattle.exchange_model.specs.declared.exchange.Exchange.{Exchange}
 use Rattle.exchange_model.specs.Cells.{IsCell, cell_number}
-use Rattle.exchange_model.proofs.Numbers.{variable_is_cell, field_is_cell, mark_is_cell, cell_number-field, cell_number-mark}
+use Rattle.exchange_model.proofs.Numbers.{variable_is_cell, field_is_cell, mark_is_cell}
+use Rattle.exchange_model.proofs.Numbers.{cell_number-field, cell_number-mark}
 use Rattle.source_meaning.specs.Config.{files_of}
 use Rattle.flow_points.specs.declared.fact.Value.{Value}
 use Rattle.entry_summary.specs.declared.summary.Access.{Access}
-use Rattle.entry_summary.specs.declared.summary.Access.TheVariants.{Variable, Field, Own, Seizes, Frees}
+use Rattle.entry_summary.specs.declared.summary.Access.TheVariants.{Variable, Field, Own, Seizes}
+use Rattle.entry_summary.specs.declared.summary.Access.TheVariants.{Frees}
 use Rattle.entry_summary.specs.declared.summary.Summary.{Summary}
 use Rattle.entry_summary.specs.Accesses.{IsForlopp, IsPlain}
 use Rattle.entry_summary.specs.Numbers.{variable_number, field_number}
@@ -124,10 +126,12 @@ module _ (x : Exchange) (all : List Access) (start : JobStart) (chains : ChainMa
 abbrev pub AllFit : Exchange → Summary → Type 0
 AllFit x s = (a : Access) → Contains s.accesses a → AccessFits x a
 
-one_let : (x : Exchange) (s : Summary) (start : JobStart) (chains : ChainMap) (write : Bool) (word : ℕ) → AllFit x s → OneOf (Lets x s.accesses start chains write) s.accesses word → WordLet x s.accesses start chains write word
+one_let : (x : Exchange) (s : Summary) (start : JobStart) (chains : ChainMap) (write : Bool) (word : ℕ) → AllFit x s
+    → OneOf (Lets x s.accesses start chains write) s.accesses word → WordLet x s.accesses start chains write word
 one_let x s start chains write word fit o = word_let x s.accesses start chains write word o.item o.there (fit o.item o.there) o.gives
 
-pub written : (x : Exchange) (s : Summary) (start : JobStart) (chains : ChainMap) (word : ℕ) → AllFit x s → MayWrite x s start chains word → WordLet x s.accesses start chains true word
+pub written : (x : Exchange) (s : Summary) (start : JobStart) (chains : ChainMap) (word : ℕ) → AllFit x s
+    → MayWrite x s start chains word → WordLet x s.accesses start chains true word
 written x s start chains word fit o = one_let x s start chains true word fit o
 
 -- what may be read is let to be read or to be written
@@ -135,6 +139,7 @@ pub record SomeLet (x : Exchange) (all : List Access) (start : JobStart) (chains
   pub write : Bool
   pub lets : WordLet x all start chains write word
 
-pub read : (x : Exchange) (s : Summary) (start : JobStart) (chains : ChainMap) (word : ℕ) → AllFit x s → MayRead x s start chains word → SomeLet x s.accesses start chains word
+pub read : (x : Exchange) (s : Summary) (start : JobStart) (chains : ChainMap) (word : ℕ) → AllFit x s
+    → MayRead x s start chains word → SomeLet x s.accesses start chains word
 read x s start chains word fit (inl o) = record { write = false; lets = one_let x s start chains false word fit o }
 read x s start chains word fit (inr o) = record { write = true; lets = one_let x s start chains true word fit o }

@@ -18,13 +18,16 @@ use Rattle.pair_tests.specs.Pairs.{Passes}
 use Rattle.order_laws.specs.Windows.{MakesWay, done_by}
 use Rattle.pair_laws.specs.Orders.{KeepsTo}
 use Rattle.pair_laws.specs.Pairs.{IsDoneBy, MayRunAtOnce}
-use Rattle.pair_laws.specs.Together.{AreIndependent, HaveOwnWords, RetiresAside, RunTogether, StartsAlike}
-use Rattle.pair_laws.proofs.Apart.{first_alone, later_alone, reads_apart, retired_store, retirement_apart, start_fits, writes_apart}
+use Rattle.pair_laws.specs.Together.{AreIndependent, HaveOwnWords, RetiresAside, RunTogether}
+use Rattle.pair_laws.specs.Together.{StartsAlike}
+use Rattle.pair_laws.proofs.Apart.{first_alone, later_alone, reads_apart, retired_store}
+use Rattle.pair_laws.proofs.Apart.{retirement_apart, start_fits, writes_apart}
 use Rattle.pair_laws.proofs.Keeping.{keeps_to, lets_stay, way_made}
 use Rattle.pair_laws.proofs.Leaving.{job_leaves}
 use Rattle.pair_laws.proofs.Ordering.{orders_same, reads_same, writes_same}
 
-module _ (x : Exchange) (facts : List Fact) (s : State) (first later : Summary) (a b : JobStart) (closed : IsClosed x (Contains facts)) (h : MayRunAtOnce x facts s first later a b) where
+module _ (x : Exchange) (facts : List Fact) (s : State) (first later : Summary) (a b : JobStart)
+    (closed : IsClosed x (Contains facts)) (h : MayRunAtOnce x facts s first later a b) where
   first_keeps : KeepsTo x s first a
   first_keeps = keeps_to x facts h.exchange closed s h.state first a h.first_fits h.first_told
 
@@ -82,6 +85,9 @@ module _ (x : Exchange) (facts : List Fact) (s : State) (first later : Summary) 
     orders = orders_same x facts s first later a b h first_keeps later_keeps;
   }
 
-pub make_way : (x : Exchange) (facts : List Fact) (first later : Summary) (a b : JobStart) → IsExchange x → IsClosed x (Contains facts) → IsSummary x (Contains facts) a.job.entry first → IsSummary x (Contains facts) b.job.entry later → IsJob x b.job → Passes first later a b
+pub make_way : (x : Exchange) (facts : List Fact) (first later : Summary) (a b : JobStart) → IsExchange x
+    → IsClosed x (Contains facts) → IsSummary x (Contains facts) a.job.entry first
+    → IsSummary x (Contains facts) b.job.entry later → IsJob x b.job → Passes first later a b
     → MakesWay x a b
-make_way x facts first later a b kept closed told other is_job passes = way_made first later a b (other.level ∙ sym is_job.level) passes x facts kept closed told
+make_way x facts first later a b kept closed told other is_job passes =
+    way_made first later a b (other.level ∙ sym is_job.level) passes x facts kept closed told

@@ -1,5 +1,7 @@
--- A job keeps to the summary of its entry by facts that are closed, and one that passes with a later one lets that one keep its turn.
-use Rattle.std.proofs.Common.{◌≡◌, ◌≤◌, ℕ, true, List, [], ◌∷◌, Option, Some, None, refl, sym, subst}
+-- A job keeps to the summary of its entry by facts that are closed, and one that passes with a
+-- later one lets that one keep its turn.
+use Rattle.std.proofs.Common.{◌≡◌, ◌≤◌, ℕ, true, List, [], ◌∷◌, Option, Some, None, refl, sym}
+use Rattle.std.proofs.Common.{subst}
 use Rattle.std.specs.List.{AllByRecursion, Contains}
 use Rattle.plex_num.specs.declared.level.Level.{Level}
 use Rattle.plex_num.specs.declared.level.Level.TheVariants.{A, B, C, D}
@@ -43,7 +45,9 @@ over_by None faulted = absurd faulted
 over_by (Some Ended) faulted = absurd faulted
 over_by (Some (Faulted f point)) faulted = record { fault = f; point = point; is = refl }
 
-module _ (x : Exchange) (facts : List Fact) (kept : IsExchange x) (closed : IsClosed x (Contains facts)) (s : State) (valid : IsValid x s) (m : Summary) (start : JobStart) (fits : IsFitting x s start) (told : IsSummary x (Contains facts) start.job.entry m) where
+module _ (x : Exchange) (facts : List Fact) (kept : IsExchange x) (closed : IsClosed x (Contains facts)) (s : State)
+    (valid : IsValid x s) (m : Summary) (start : JobStart) (fits : IsFitting x s start)
+    (told : IsSummary x (Contains facts) start.job.entry m) where
   pub may_fault : IsFaulted (done_by (job x start s.store)).outcome → m.fault ≡ true
   may_fault faulted =
       let o = over_by (job x start s.store).over faulted in
@@ -63,7 +67,9 @@ module _ (first later : Summary) (a b : JobStart) (own : later.level ≡ b.job.l
   goes_behind : (to : SendTo) → IsToLevel first to → GoesBehind b.job.level to
   goes_behind (Outside signal) at = tt
   goes_behind (Queue entry level fresh) at =
-      subst (λ n. n ≤ rank level) (sym (rank_is b.job.level)) (subst (λ n. level_number b.job.level ≤ n) (sym (rank_is level)) (is_not_above first later a b own passes level at))
+      subst (λ n. n ≤ rank level) (sym (rank_is b.job.level))
+      (subst (λ n. level_number b.job.level ≤ n) (sym (rank_is level))
+      (is_not_above first later a b own passes level at))
 
   all_behind : (sends : List Sent) → AreToLevels first sends → AllByRecursion (λ (m : Sent). GoesBehind b.job.level m.to) sends
   all_behind [] all = tt
@@ -77,9 +83,12 @@ module _ (first later : Summary) (a b : JobStart) (own : later.level ≡ b.job.l
   pub lets_stay_so : (done : JobDone) → AreToLevels first done.sends → (IsFaulted done.outcome → first.fault ≡ true) → LetsStay a done b.job
   lets_stay_so done sends may = record { sends = all_behind done.sends sends; outcome = spares done.outcome may }
 
-  module _ (x : Exchange) (facts : List Fact) (kept : IsExchange x) (closed : IsClosed x (Contains facts)) (told : IsSummary x (Contains facts) a.job.entry first) where
+  module _ (x : Exchange) (facts : List Fact) (kept : IsExchange x) (closed : IsClosed x (Contains facts))
+      (told : IsSummary x (Contains facts) a.job.entry first) where
     pub lets_stay : (s : State) → IsValid x s → IsFitting x s a → LetsStay a (done_by (job x a s.store)) b.job
-    lets_stay s valid fits = lets_stay_so (done_by (job x a s.store)) (job_stays x kept (Contains facts) closed first s valid a fits told).2 (may_fault x facts kept closed s valid first a fits told)
+    lets_stay s valid fits = lets_stay_so (done_by (job x a s.store))
+        (job_stays x kept (Contains facts) closed first s valid a fits told).2
+        (may_fault x facts kept closed s valid first a fits told)
 
     pub way_made : MakesWay x a b
     way_made = record { forlopps = passes.forlopps; stays = lets_stay }

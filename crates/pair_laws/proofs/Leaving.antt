@@ -1,7 +1,9 @@
--- What a job leaves that keeps to its summary. The marks tell: one that the job's chain has at its end and had not at its start was
--- stored to, and so was one that it had at its start and has no more; and the job may store to a mark only by a SEIZE of a record
--- that is free, or by a FREE of one that it may hold.
-use Rattle.std.proofs.Common.{◌≡◌, ◌≢◌, ◌⊎◌, inl, inr, ⊎_elim, ℕ, true, false, List, [], ◌∷◌, sym, ap, ◌∙◌, subst, arith}
+-- What a job leaves that keeps to its summary. The marks tell: one that the job's chain has at its
+-- end and had not at its start was stored to, and so was one that it had at its start and has no
+-- more; and the job may store to a mark only by a SEIZE of a record that is free, or by a FREE of
+-- one that it may hold.
+use Rattle.std.proofs.Common.{◌≡◌, ◌≢◌, ◌⊎◌, inl, inr, ⊎_elim, ℕ, true, false, List, [], ◌∷◌, sym}
+use Rattle.std.proofs.Common.{ap, ◌∙◌, subst, arith}
 use Rattle.std.specs.Prelude.{slice_index}
 use Rattle.std.specs.List.{AllByRecursion, Contains}
 use Rattle.std.proofs.lemmas.Bool.{cases_eq, both_ways, cases_Bool}
@@ -42,7 +44,8 @@ use Rattle.pair_laws.proofs.Beside.{held_at_start, held_not_free}
 use Rattle.pair_laws.proofs.Staying.{chain_of}
 
 -- permitted touches do not store to a word, or it may be written
-stored_or_not : (x : Exchange) (m : Summary) (start : JobStart) (chains : ChainMap) (ts : List Touch) (w : ℕ) → ArePermitted x m start chains ts → NoStore w ts ⊎ MayWrite x m start chains w
+stored_or_not : (x : Exchange) (m : Summary) (start : JobStart) (chains : ChainMap) (ts : List Touch) (w : ℕ)
+    → ArePermitted x m start chains ts → NoStore w ts ⊎ MayWrite x m start chains w
 stored_or_not x m start chains [] w all = inl tt
 stored_or_not x m start chains (Load u v ∷ ts) w all = stored_or_not x m start chains ts w all.1
 stored_or_not x m start chains (Store u v ∷ ts) w all =
@@ -51,7 +54,8 @@ stored_or_not x m start chains (Store u v ∷ ts) w all =
       | inr other ↦ ⊎_elim (λ none. inl (other, none)) (λ writes. inr writes) (stored_or_not x m start chains ts w all.1)
     ]
 
-module _ (x : Exchange) (facts : List Fact) (s : State) (m : Summary) (start : JobStart) (kept : IsExchange x) (valid : IsValid x s) (fits : IsFitting x s start) where
+module _ (x : Exchange) (facts : List Fact) (s : State) (m : Summary) (start : JobStart) (kept : IsExchange x)
+    (valid : IsValid x s) (fits : IsFitting x s start) where
   abbrev f : ℕ
   f = start.job.forlopp
 
@@ -70,7 +74,8 @@ module _ (x : Exchange) (facts : List Fact) (s : State) (m : Summary) (start : J
   in_end file number h = subst (λ chain. holds chain file number ≡ true) (sym (put_same (chain_at s.chains) f end.own.chain)) h
 
   -- a record that stands in the chain of another forlopp does so at the end
-  in_other : (n file number : ℕ) → n ≢ f → holds (chain_at s.chains n) file number ≡ true → holds (put_chain (chain_at s.chains) f end.own.chain n) file number ≡ true
+  in_other : (n file number : ℕ) → n ≢ f → holds (chain_at s.chains n) file number ≡ true
+      → holds (put_chain (chain_at s.chains) f end.own.chain n) file number ≡ true
   in_other n file number other h = subst (λ chain. holds chain file number ≡ true) (sym (put_other (chain_at s.chains) f end.own.chain n other)) h
 
   in_start : (file number : ℕ) → holds (chain_at s.chains f) file number ≡ true → holds start.chain file number ≡ true
@@ -81,16 +86,19 @@ module _ (x : Exchange) (facts : List Fact) (s : State) (m : Summary) (start : J
   was_free file number h none n =
       ⊎_elim
       (λ there. elim (cases_eq n f) [
-        | inl same ↦ absurd (both_ways (holds start.chain file number) none (in_start file number (subst (λ k. holds (chain_at s.chains k) file number ≡ true) same there)))
+        | inl same ↦ absurd (both_ways (holds start.chain file number) none
+            (in_start file number (subst (λ k. holds (chain_at s.chains k) file number ≡ true) same there)))
         | inr other ↦ absurd (other (ended_so.books.apart n f file number (in_other n file number other there) (in_end file number h)))
       ])
       (λ out. out) (cases_Bool (holds (chain_at s.chains n) file number))
 
   -- and one that it held at its start and does not hold at its end is free then
-  is_free : (file number : ℕ) → holds start.chain file number ≡ true → holds end.own.chain file number ≡ false → (n : ℕ) → holds (put_chain (chain_at s.chains) f end.own.chain n) file number ≡ false
+  is_free : (file number : ℕ) → holds start.chain file number ≡ true → holds end.own.chain file number ≡ false → (n : ℕ)
+      → holds (put_chain (chain_at s.chains) f end.own.chain n) file number ≡ false
   is_free file number h none n =
       elim (cases_eq n f) [
-        | inl same ↦ ap (λ k. holds (put_chain (chain_at s.chains) f end.own.chain k) file number) same ∙ ap (λ chain. holds chain file number) (put_same (chain_at s.chains) f end.own.chain) ∙ none
+        | inl same ↦ ap (λ k. holds (put_chain (chain_at s.chains) f end.own.chain k) file number) same
+            ∙ ap (λ chain. holds chain file number) (put_same (chain_at s.chains) f end.own.chain) ∙ none
         | inr other ↦
             ap (λ chain. holds chain file number) (put_other (chain_at s.chains) f end.own.chain n other)
             ∙ ⊎_elim
@@ -103,7 +111,9 @@ module _ (x : Exchange) (facts : List Fact) (s : State) (m : Summary) (start : J
     all_fit one there = access_fits x kept (Contains facts) start.job.entry one ((told.accesses one).0 there)
 
     -- a mark that has changed may be written, and why
-    mark_let : (file number : ℕ) (r : IsRecord x (record { file = file; number = number })) → (slice_index end.world.store (mark_cell r.placed number) ≡ slice_index s.store (mark_cell r.placed number) → ⊥)
+    mark_let : (file number : ℕ) (r : IsRecord x (record { file = file; number = number }))
+        → (slice_index end.world.store (mark_cell r.placed number) ≡ slice_index s.store (mark_cell r.placed number)
+        → ⊥)
         → CellLet x m.accesses start s.chains true (cell.Mark file number)
     unfolding files_of
     mark_let file number r changed =
@@ -111,16 +121,20 @@ module _ (x : Exchange) (facts : List Fact) (s : State) (m : Summary) (start : J
         let c : Cell = cell.Mark file number in
         let there : IsCell x.blocks c = mark_is_cell x.blocks file number r.placed r.here.there r.here.within r.kind in
         let writes : MayWrite x m start s.chains w =
-        ⊎_elim (λ none. absurd (changed (job_keeps x start s.store w none))) (λ may. may) (stored_or_not x m start s.chains (trace_of x start s.store) w keeps.touches) in
+        ⊎_elim (λ none. absurd (changed (job_keeps x start s.store w none))) (λ may. may)
+        (stored_or_not x m start s.chains (trace_of x start s.store) w keeps.touches) in
         let q = written x m start s.chains w all_fit writes in
         let at : q.at ≡ c = cell_number-once x.blocks q.at c q.there there (q.is ∙ sym (cell_number-mark x.blocks file number r.placed r.here.there)) in
         subst (CellLet x m.accesses start s.chains true) at q.lets
 
-    taken : (file number : ℕ) → IsFree s.chains file number → CellLet x m.accesses start s.chains true (cell.Mark file number) → MayHold m.accesses start.chain s.chains file number
+    taken : (file number : ℕ) → IsFree s.chains file number
+        → CellLet x m.accesses start s.chains true (cell.Mark file number)
+        → MayHold m.accesses start.chain s.chains file number
     taken file number free (inl q) = inr (q.there, free)
     taken file number free (inr q) = q.held
 
-    given : (file number : ℕ) → holds start.chain file number ≡ true → CellLet x m.accesses start s.chains true (cell.Mark file number) → Contains m.accesses (Frees file)
+    given : (file number : ℕ) → holds start.chain file number ≡ true
+        → CellLet x m.accesses start s.chains true (cell.Mark file number) → Contains m.accesses (Frees file)
     given file number h (inl q) = absurd (held_not_free x s start file number fits h q.marks)
     given file number h (inr q) = q.there
 
@@ -131,7 +145,8 @@ module _ (x : Exchange) (facts : List Fact) (s : State) (m : Summary) (start : J
         let r : IsRecord x (record { file = file; number = number }) = holds_all (IsRecord x) end.own.chain file number end_records h in
         let free = was_free file number h none in
         let before : slice_index s.store (mark_cell r.placed number) ≡ 0 = valid.marks.free file number r.placed r.here r.kind free in
-        let after : slice_index end.world.store (mark_cell r.placed number) ≡ 1 = ended_so.books.held f file number r.placed r.here.there (in_end file number h) in
+        let after : slice_index end.world.store (mark_cell r.placed number) ≡ 1 =
+        ended_so.books.held f file number r.placed r.here.there (in_end file number h) in
         taken file number free (mark_let file number r (λ same. (let e : 1 ≡ 0 = sym after ∙ same ∙ before in omega (arith, e)))))
         (cases_Bool (holds start.chain file number))
 
@@ -139,8 +154,10 @@ module _ (x : Exchange) (facts : List Fact) (s : State) (m : Summary) (start : J
     end_let_go file number h none =
         let had = (held_at_start x s start file number fits h).1 in
         let r : IsRecord x (record { file = file; number = number }) = holds_all (IsRecord x) (chain_at s.chains f) file number (valid.chains.records f) had in
-        let before : slice_index s.store (mark_cell r.placed number) ≡ 1 = valid.marks.held f (record { file = file; number = number }) r.placed r.here.there had in
-        let after : slice_index end.world.store (mark_cell r.placed number) ≡ 0 = ended_so.books.free file number r.placed r.here r.kind (is_free file number h none) in
+        let before : slice_index s.store (mark_cell r.placed number)
+        ≡ 1 = valid.marks.held f (record { file = file; number = number }) r.placed r.here.there had in
+        let after : slice_index end.world.store (mark_cell r.placed number) ≡ 0 =
+        ended_so.books.free file number r.placed r.here r.kind (is_free file number h none) in
         given file number h (mark_let file number r (λ same. (let e : 0 ≡ 1 = sym after ∙ same ∙ before in omega (arith, e))))
 
     pub job_leaves : IsDoneBy x m start s.chains (done_by (job x start s.store))

@@ -19,13 +19,16 @@ use Rattle.flow_points.specs.declared.fact.Fact.{Fact}
 use Rattle.entry_summary.specs.declared.summary.Summary.{Summary}
 use Rattle.start_permit.specs.Granted.{MayRead, MayWrite}
 use Rattle.order_laws.specs.Windows.{done_by}
-use Rattle.pair_laws.specs.Orders.{KeepsTo, SameOrders, after_job, retirement_touches, with_words_of}
+use Rattle.pair_laws.specs.Orders.{KeepsTo, SameOrders, after_job, retirement_touches}
+use Rattle.pair_laws.specs.Orders.{with_words_of}
 use Rattle.pair_laws.specs.Pairs.{IsDoneBy, LeavesChains, MayRunAtOnce}
-use Rattle.pair_laws.proofs.Apart.{chains_left, first_alone, later_alone, reads_stay, retired_store, retirement_apart, writes_stay}
+use Rattle.pair_laws.proofs.Apart.{chains_left, first_alone, later_alone, reads_stay, retired_store}
+use Rattle.pair_laws.proofs.Apart.{retirement_apart, writes_stay}
 use Rattle.pair_laws.proofs.Leaving.{job_leaves}
 use Rattle.pair_laws.proofs.Touching.{lists_past, no_store_append, touched_read}
 
-module _ (x : Exchange) (facts : List Fact) (s : State) (first later : Summary) (a b : JobStart) (h : MayRunAtOnce x facts s first later a b) (k : KeepsTo x s first a) where
+module _ (x : Exchange) (facts : List Fact) (s : State) (first later : Summary) (a b : JobStart)
+    (h : MayRunAtOnce x facts s first later a b) (k : KeepsTo x s first a) where
   abbrev done : JobDone
   done = done_by (job x a s.store)
 
@@ -70,7 +73,8 @@ module _ (x : Exchange) (facts : List Fact) (s : State) (first later : Summary) 
     first_same : job x a (store_after x b s.store) ≡ over_words (store_after x b s.store) (job x a s.store)
     first_same =
         subst (λ ws. job x a ws ≡ over_words ws (job x a s.store)) (sym (job_store x b s.store))
-        (job_after x a s.store (trace_of x b s.store) (later_alone x facts s first later a b h (trace_of x a s.store) (trace_of x b s.store) k.touches l.touches))
+        (job_after x a s.store (trace_of x b s.store)
+        (later_alone x facts s first later a b h (trace_of x a s.store) (trace_of x b s.store) k.touches l.touches))
 
     words_same : store_after x b (after_job x a s).store ≡ (after_job x a (with_words_of x b s)).store
     words_same =

@@ -16,12 +16,16 @@ use Rattle.pair_laws.proofs.Apart.{start_fits}
 use Rattle.pair_laws.proofs.Leaving.{job_leaves}
 
 -- the later one's start fits after the turn of the first
-turn_fits : (x : Exchange) (facts : List Fact) (s : State) (first later : Summary) (a b : JobStart) → MayRunAtOnce x facts s first later a b → KeepsTo x s first a → IsFitting x (ended_as x a (job x a s.store) (begun s)) b
+turn_fits : (x : Exchange) (facts : List Fact) (s : State) (first later : Summary) (a b : JobStart)
+    → MayRunAtOnce x facts s first later a b → KeepsTo x s first a
+    → IsFitting x (ended_as x a (job x a s.store) (begun s)) b
 turn_fits x facts s first later a b h k =
     start_fits x facts s first later a b (done_by (job x a s.store)) h (job_leaves x facts s first a h.exchange h.state h.first_fits h.first_told k)
     (record (begun s) { store = (job x a s.store).world.store }) refl refl refl
 
-pub pair_stays : (x : Exchange) (facts : List Fact) (s : State) (first second third : Summary) (a b c : JobStart) → MayRunAtOnce x facts s first second a b → MayRunAtOnce x facts s first third a c → MayRunAtOnce x facts s second third b c → KeepsTo x s first a
+pub pair_stays : (x : Exchange) (facts : List Fact) (s : State) (first second third : Summary) (a b c : JobStart)
+    → MayRunAtOnce x facts s first second a b → MayRunAtOnce x facts s first third a c
+    → MayRunAtOnce x facts s second third b c → KeepsTo x s first a
     → MayRunAtOnce x facts (ended_as x a (job x a s.store) (begun s)) second third b c
 pair_stays x facts s first second third a b c g h pair k =
     record {

@@ -1,5 +1,7 @@
 -- What the retirement of the first job stores.
-use Rattle.std.proofs.Common.{◌≡◌, ℕ, zero, suc, ◌+◌, true, false, List, [], ◌∷◌, ◌++◌, Option, Some, None, slice_get, refl, sym, ap, ◌∙◌, subst, append_assoc, append-nil}
+use Rattle.std.proofs.Common.{◌≡◌, ℕ, zero, suc, ◌+◌, true, false, List, [], ◌∷◌, ◌++◌, Option}
+use Rattle.std.proofs.Common.{Some, None, slice_get, refl, sym, ap, ◌∙◌, subst, append_assoc}
+use Rattle.std.proofs.Common.{append-nil}
 use Rattle.std.specs.Option.{option_map_or}
 use Rattle.job_types.specs.declared.chain.Held.{Held}
 use Rattle.job_types.specs.declared.job.JobStart.{JobStart}
@@ -20,7 +22,9 @@ use Rattle.exchange_model.specs.declared.exchange.Exchange.{Exchange}
 use Rattle.exchange_model.specs.Cells.{Placed, field_cell, mark_cell}
 use Rattle.source_meaning.specs.Changes.{opens_fields, opens_record}
 use Rattle.source_meaning.specs.Config.{files_of}
-use Rattle.source_meaning.specs.Retirement.{all_delivered, all_opened, delivered, delivered_to, keeps_chain, opened, release_world, retires, with_outcome}
+use Rattle.source_meaning.specs.Retirement.{all_delivered, all_opened, delivered, delivered_to}
+use Rattle.source_meaning.specs.Retirement.{keeps_chain, opened, release_world, retires}
+use Rattle.source_meaning.specs.Retirement.{with_outcome}
 use Rattle.source_meaning.specs.State.{State}
 use Rattle.entry_summary.specs.declared.summary.Summary.{Summary}
 use Rattle.start_permit.specs.Granted.{MayRead}
@@ -55,10 +59,13 @@ makes_then f g p q = record {
 
 makes_fields : (p : Placed) (number field : ℕ) (fields : List Variable) → Makes (opens_fields p number field fields)
 makes_fields p number field [] = makes_none
-makes_fields p number field (v ∷ rest) = makes_then (writes (field_cell p number field) v.init) (opens_fields p number (field + 1) rest) (makes_one (field_cell p number field) v.init) (makes_fields p number (field + 1) rest)
+makes_fields p number field (v ∷ rest) = makes_then (writes (field_cell p number field) v.init)
+    (opens_fields p number (field + 1) rest) (makes_one (field_cell p number field) v.init)
+    (makes_fields p number (field + 1) rest)
 
 makes_record : (p : Placed) (number : ℕ) → Makes (opens_record p number)
-makes_record p number = makes_then (opens_fields p number 0 p.file.fields) (writes (mark_cell p number) 0) (makes_fields p number 0 p.file.fields) (makes_one (mark_cell p number) 0)
+makes_record p number = makes_then (opens_fields p number 0 p.file.fields) (writes (mark_cell p number) 0)
+    (makes_fields p number 0 p.file.fields) (makes_one (mark_cell p number) 0)
 
 makes_opened : (number : ℕ) (o : Option Placed) → Makes (λ w. option_map_or (λ (p : Placed). opens_record p number w) o w)
 makes_opened number None = makes_none
@@ -95,8 +102,10 @@ kept_store : (forlopp : ℕ) (chain : List Held) (t : State) → (keeps_chain fo
 kept_store zero chain t = refl
 kept_store (suc n) chain t = refl
 
-module _ (x : Exchange) (s : State) (first later : Summary) (a b : JobStart) (done : JobDone) (h : AreBeside x s first later a b) (d : IsDoneBy x first a s.chains done) where
-  stored_by : (f : ℕ) (o : Outcome) (t : State) → f ≡ a.job.forlopp → done.outcome ≡ o → (with_outcome x f o (keeps_chain f done.chain t)).store ≡ stored t.store (ended_touches x o done.chain)
+module _ (x : Exchange) (s : State) (first later : Summary) (a b : JobStart) (done : JobDone)
+    (h : AreBeside x s first later a b) (d : IsDoneBy x first a s.chains done) where
+  stored_by : (f : ℕ) (o : Outcome) (t : State) → f ≡ a.job.forlopp → done.outcome ≡ o
+      → (with_outcome x f o (keeps_chain f done.chain t)).store ≡ stored t.store (ended_touches x o done.chain)
   stored_by f Ended t is how = kept_store f done.chain t
   stored_by zero (Faulted f point) t is how = absurd (some_forlopp x s first later a b h (d.fault (subst IsFaulted (sym how) tt)) (sym is))
   stored_by (suc k) (Faulted f point) t is how =

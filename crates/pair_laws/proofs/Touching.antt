@@ -1,4 +1,5 @@
--- Lists of touches: what is permitted leaves alone what the other job may touch, and stores of two lists change places.
+-- Lists of touches: what is permitted leaves alone what the other job may touch, and stores of two
+-- lists change places.
 use Rattle.std.proofs.Common.{◌≡◌, inl, inr, ℕ, List, [], ◌∷◌, ◌++◌, set, refl, sym, ap, ◌∙◌, subst}
 use Rattle.std.proofs.lemmas.List.{set_comm}
 use Rattle.job_types.specs.declared.job.JobStart.{JobStart}
@@ -30,10 +31,12 @@ module _ (x : Exchange) (m : Summary) (start : JobStart) (chains : ChainMap) whe
 
 module _ (x : Exchange) (s : State) (first later : Summary) (a b : JobStart) (h : AreBeside x s first later a b) where
   pub first_alone : (ts us : List Touch) → ArePermitted x first a s.chains ts → ArePermitted x later b s.chains us → LeavesAlone ts us
-  first_alone ts us p q w at = not_stored x first a s.chains ts w p (λ writes. writes_apart x s first later a b h w writes (touched_read x later b s.chains us w q at))
+  first_alone ts us p q w at = not_stored x first a s.chains ts w p
+      (λ writes. writes_apart x s first later a b h w writes (touched_read x later b s.chains us w q at))
 
   pub later_alone : (ts us : List Touch) → ArePermitted x first a s.chains ts → ArePermitted x later b s.chains us → LeavesAlone us ts
-  later_alone ts us p q w at = not_stored x later b s.chains us w q (λ writes. reads_apart x s first later a b h w (touched_read x first a s.chains ts w p at) writes)
+  later_alone ts us p q w at = not_stored x later b s.chains us w q
+      (λ writes. reads_apart x s first later a b h w (touched_read x first a s.chains ts w p at) writes)
 
 -- two lists, one after the other
 pub no_store_append : (w : ℕ) (ts us : List Touch) → NoStore w ts → NoStore w us → NoStore w (ts ++ us)

@@ -1,4 +1,5 @@
--- Two jobs in both orders: the later one after the first has retired, and the first after the later one's words.
+-- Two jobs in both orders: the later one after the first has retired, and the first after the later
+-- one's words.
 use Rattle.std.specs.Prelude.{◌≡◌, true, List, []}
 use Rattle.job_types.specs.declared.chain.Held.{Held}
 use Rattle.job_types.specs.declared.job.JobStart.{JobStart}
@@ -30,7 +31,8 @@ ended_touches x (Faulted f point) held = release_touches x held
 abbrev pub retirement_touches : Exchange → JobDone → List Touch
 retirement_touches x done = ended_touches x done.outcome done.chain
 
--- a job that begins in the state keeps to what the summary says: its touches are permitted, and a fault ends it only if it may fault
+-- a job that begins in the state keeps to what the summary says: its touches are permitted, and a
+-- fault ends it only if it may fault
 pub record KeepsTo (x : Exchange) (s : State) (m : Summary) (start : JobStart) : Type 0 where
   pub touches : ArePermitted x m start s.chains (trace_of x start s.store)
   pub fault : IsFaulted (done_by (job x start s.store)).outcome → m.fault ≡ true
@@ -43,8 +45,10 @@ after_job x start s = ended_as x start (job x start s.store) s
 abbrev pub with_words_of : Exchange → JobStart → State → State
 with_words_of x start s = record s { store = store_after x start s.store }
 
--- in either order each of the two is the same job with the same trace, sends, chain and outcome, and the words are the same
+-- in either order each of the two is the same job with the same trace, sends, chain and outcome,
+-- and the words are the same
 pub record SameOrders (x : Exchange) (s : State) (a b : JobStart) : Type 0 where
   pub later : job x b (after_job x a s).store ≡ over_words (after_job x a s).store (job x b s.store)
-  pub first : job x a (store_after x b s.store) ≡ over_words (store_after x b s.store) (job x a s.store)
+  pub first : job x a (store_after x b s.store)
+      ≡ over_words (store_after x b s.store) (job x a s.store)
   pub words : store_after x b (after_job x a s).store ≡ (after_job x a (with_words_of x b s)).store

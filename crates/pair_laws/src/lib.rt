@@ -1,11 +1,13 @@
 // Laws of pairs: what two jobs that pass may read and write is apart.
 //
-// What goes in are definitions: when the jobs of two summaries pass, which words a job may read and write, and what a retirement
-// leaves. What comes out are laws, as public functions without a body: no word that one of the two may write is one that the
-// other may read; a release after a fault of the first writes none of the later one's; the later one's words are the same before
-// and after the first has retired; and no signal of the first goes before the later job. Every job keeps to the summary of its
-// entry by facts that are closed; so two jobs do the same in either order, and the first makes way to the later one. There is no
-// code, and nothing is known of how facts or summaries were found.
+// What goes in are definitions: when the jobs of two summaries pass, which words a job may read and
+// write, and what a retirement leaves. What comes out are laws, as public functions without a body:
+// no word that one of the two may write is one that the other may read; a release after a fault of
+// the first writes none of the later one's; the later one's words are the same before and after the
+// first has retired; and no signal of the first goes before the later job. Every job keeps to the
+// summary of its entry by facts that are closed; so two jobs do the same in either order, and the
+// first makes way to the later one. There is no code, and nothing is known of how facts or
+// summaries were found.
 #![tactic(auto)]
 
 mod laws;

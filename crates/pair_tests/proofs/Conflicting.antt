@@ -1,5 +1,6 @@
 -- Conflicts of accesses and levels are the conflicts of two summaries.
-use Rattle.std.proofs.Common.{◌≡◌, ◌⊎◌, inl, inr, ℕ, Bool, true, false, ◌&&◌, ◌||◌, nat_eq, nat_lt, List, Option, Some, refl, sym, subst}
+use Rattle.std.proofs.Common.{◌≡◌, ◌⊎◌, inl, inr, ℕ, Bool, true, false, ◌&&◌, ◌||◌, nat_eq, nat_lt}
+use Rattle.std.proofs.Common.{List, Option, Some, refl, sym, subst}
 use Rattle.std.proofs.lemmas.Bool.{eqb-true, eq-eqb, and_from, and_parts, ltb-true, lt-ltb}
 use Rattle.std.proofs.lemmas.Option.{none-some, same_Some}
 use Rattle.std.specs.List.{Contains}
@@ -12,8 +13,11 @@ use Rattle.entry_summary.specs.declared.summary.Summary.{Summary}
 use Rattle.entry_summary.specs.Orders.{level_number}
 use Rattle.pair_tests.specs.declared.pair.Conflict.{Conflict}
 use Rattle.pair_tests.specs.declared.pair.Conflict.TheVariants as conflict
-use Rattle.pair_tests.specs.Clashes.{share, meet, only_if, clash_of, Clashes, ClashesAbove, IsLeastConflict, IsSooner}
-use Rattle.pair_tests.specs.Pairs.{ShareFile, both_seize, later_frees, first_frees, Meet, IsConflict, IsFirstConflict, on_variable, on_field, on_file, on_level}
+use Rattle.pair_tests.specs.Clashes.{share, meet, only_if, clash_of, Clashes, ClashesAbove}
+use Rattle.pair_tests.specs.Clashes.{IsLeastConflict, IsSooner}
+use Rattle.pair_tests.specs.Pairs.{ShareFile, both_seize, later_frees, first_frees, Meet}
+use Rattle.pair_tests.specs.Pairs.{IsConflict, IsFirstConflict, on_variable, on_field, on_file}
+use Rattle.pair_tests.specs.Pairs.{on_level}
 use Rattle.pair_tests.proofs.Leasts.{least_joined}
 use Rattle.pair_tests.proofs.Preceding.{Ranked, Same, Before, After, ranked}
 
@@ -61,7 +65,8 @@ module _ (first later : Summary) where
       let h = chosen (nat_eq f g) (conflict.Seizing f) c e in
       subst (IsConflict first later) h.1 (on_file f (shares (eqb-true f g h.0)))
 
-  pub clash_is : (one other : Access) (c : Conflict) → Contains first.accesses one → Contains later.accesses other → clash_of one other ≡ Some c → IsConflict first later c
+  pub clash_is : (one other : Access) (c : Conflict) → Contains first.accesses one → Contains later.accesses other
+      → clash_of one other ≡ Some c → IsConflict first later c
   clash_is (Variable w n) (Variable v m) c at there e =
       let h = chosen (share n m w v) (conflict.Variable n) c e in
       let s = shared n m w v h.0 in
@@ -88,7 +93,8 @@ module _ (first later : Summary) where
   clash_is (Frees f) (Seizes g) c at there e = file_clash f g c (λ s. first_frees at (subst (λ k. Contains later.accesses (Seizes k)) (sym s) there)) e
   clash_is _ _ c at there e = absurd (none-some c e)
 
-  clashes : (one other : Access) (c : Conflict) → Contains first.accesses one → Contains later.accesses other → clash_of one other ≡ Some c → Clashes first.accesses later.accesses c
+  clashes : (one other : Access) (c : Conflict) → Contains first.accesses one → Contains later.accesses other
+      → clash_of one other ≡ Some c → Clashes first.accesses later.accesses c
   clashes one other c at there e = record { one = one; there = at; clash = record { other = other; there = there; clash = e } }
 
   file_has : (f : ℕ) → ShareFile first later f → Clashes first.accesses later.accesses (conflict.Seizing f)
@@ -106,7 +112,12 @@ module _ (first later : Summary) where
       (and_from (share n n s.first_writes s.later_writes) (meet u v) (sharing n s.first_writes s.later_writes s.one_writes) (meet_has u v m))))
   conflict_cases c (on_file f s) = inl (file_has f s)
   conflict_cases c (on_level level at below) =
-      inr (record { level = level; there = at; clash = choose (nat_lt (level_number level) (level_number later.level)) (conflict.Above level) (lt-ltb (level_number level) (level_number later.level) below) })
+      inr (record {
+        level = level;
+        there = at;
+        clash = choose (nat_lt (level_number level) (level_number later.level)) (conflict.Above level)
+            (lt-ltb (level_number level) (level_number later.level) below);
+      })
 
   pub of_accesses : (c : Conflict) → Clashes first.accesses later.accesses c → IsConflict first later c
   of_accesses c h = clash_is h.one h.clash.other c h.there h.clash.there h.clash.clash
@@ -119,7 +130,8 @@ module _ (first later : Summary) where
 -- the first of the conflicts of accesses and of levels
 pub first_of : (first later : Summary) (ones others : List Access) (levels : List Level) (clash above result : Option Conflict)
     → ones ≡ first.accesses → others ≡ later.accesses → levels ≡ first.levels
-    → IsLeastConflict (Clashes ones others) clash → IsLeastConflict (ClashesAbove levels later.level) above → IsSooner clash above result → IsLeastConflict (IsConflict first later) result
+    → IsLeastConflict (Clashes ones others) clash → IsLeastConflict (ClashesAbove levels later.level) above
+    → IsSooner clash above result → IsLeastConflict (IsConflict first later) result
 first_of first later ones others levels clash above result same_ones same_others same_levels c a is =
     least_joined (Clashes first.accesses later.accesses) (ClashesAbove first.levels later.level) (IsConflict first later)
     (of_accesses first later) (of_level first later) (conflict_cases first later) clash above result

@@ -1,5 +1,7 @@
 -- Tests that hold of two jobs.
-use Rattle.std.proofs.Common.{◌≡◌, ◌≢◌, ◌⊎◌, inl, inr, ⊎_elim, ℕ, ◌+◌, ◌<◌, ◌≤◌, Bool, true, false, ◌&&◌, List, [], ◌∷◌, ◌++◌, length, take, get_or, Option, Some, None, refl, sym, ◌∙◌, subst}
+use Rattle.std.proofs.Common.{◌≡◌, ◌≢◌, ◌⊎◌, inl, inr, ⊎_elim, ℕ, ◌+◌, ◌<◌, ◌≤◌, Bool, true, false}
+use Rattle.std.proofs.Common.{◌&&◌, List, [], ◌∷◌, ◌++◌, length, take, get_or, Option, Some, None}
+use Rattle.std.proofs.Common.{refl, sym, ◌∙◌, subst}
 use Rattle.std.specs.Prelude.{◌↔◌, IsTrue}
 use Rattle.std.specs.Option.{is_some}
 use Rattle.std.specs.List.{All, Contains}
@@ -16,10 +18,13 @@ use Rattle.pair_tests.specs.declared.pair.Conflict.{Conflict}
 use Rattle.pair_tests.specs.declared.pair.Test.{Test}
 use Rattle.pair_tests.specs.declared.pair.Test.TheVariants as test
 use Rattle.pair_tests.specs.Clashes.{IsLeastConflict}
-use Rattle.pair_tests.specs.Asked.{asked_of, asks, release_test, AskedWith, Asked, AskedSeizing, AskedRelease, AllHold}
+use Rattle.pair_tests.specs.Asked.{asked_of, asks, release_test, AskedWith, Asked, AskedSeizing}
+use Rattle.pair_tests.specs.Asked.{AskedRelease, AllHold}
 use Rattle.pair_tests.specs.Nearby.{passes_reads, AreNear}
 use Rattle.pair_tests.specs.Pairs.{TestHolds, IsConflict, IsTest, Passes}
-use Rattle.pair_tests.proofs.Tested.{with_pushed, all_pushed, seizing_pushed, near_asked, asked_all, none_asked_with, writes_asked, of_asked, of_release, test_cases}
+use Rattle.pair_tests.proofs.Tested.{with_pushed, all_pushed, seizing_pushed, near_asked, asked_all}
+use Rattle.pair_tests.proofs.Tested.{none_asked_with, writes_asked, of_asked, of_release}
+use Rattle.pair_tests.proofs.Tested.{test_cases}
 
 sure : (r : Bool) → r ≡ true → IsTrue r
 sure r e = e
@@ -67,10 +72,17 @@ module _ (a b : JobStart) where
   pub with_fails : (one : Access) (others : List Access) (i : ℕ) (d : Access) (o : Option Test) (r : Bool) → i < length others
       → o ≡ asked_of one (get_or others i d) → IsTrue r ↔ AllHold (λ t. o ≡ Some t) a b → r ≡ false
       → IsTrue false ↔ AllHold (AskedWith one others) a b
-  with_fails one others i d o r lt same is fails =
-      (λ h. absurd (false≢true h), λ h. absurd (unsure r fails (is.1 (record { each = λ t e. h.each t (record { other = get_or others i d; there = Contains-get_or others i d lt; asks = sym same ∙ e }) }))))
+  with_fails one others i d o r lt same is fails = (
+    λ h. absurd (false≢true h),
+    λ h. absurd
+        (unsure r fails (is.1 (record {
+          each = λ t e. h.each t
+              (record { other = get_or others i d; there = Contains-get_or others i d lt; asks = sym same ∙ e });
+        }))),
+  )
 
-  pub with_end : (one : Access) (others : List Access) (i : ℕ) → length others ≤ i → AllHold (AskedWith one (take i others)) a b → IsTrue true ↔ AllHold (AskedWith one others) a b
+  pub with_end : (one : Access) (others : List Access) (i : ℕ) → length others ≤ i
+      → AllHold (AskedWith one (take i others)) a b → IsTrue true ↔ AllHold (AskedWith one others) a b
   with_end one others i past h = (λ k. subst (λ l. AllHold (AskedWith one l) a b) (take_all i others past) h, λ k. refl)
 
   pub none_with : (one : Access) (all : List Access) → asks one ≡ false → IsTrue true ↔ AllHold (AskedWith one all) a b
@@ -78,13 +90,17 @@ module _ (a b : JobStart) where
 
   pub with_writes : (one : Access) (all writes : List Access) (r : Bool) → passes_reads one ≡ true → AreNear one true all writes
       → IsTrue r ↔ AllHold (AskedWith one writes) a b → IsTrue r ↔ AllHold (AskedWith one all) a b
-  with_writes one all writes r reads w h =
-      (λ k. fewer (AskedWith one all) (AskedWith one writes) (writes_asked one all writes reads w) (h.0 k), λ k. h.1 (fewer (AskedWith one writes) (AskedWith one all) (asked_all one true all writes w) k))
+  with_writes one all writes r reads w h = (
+    λ k. fewer (AskedWith one all) (AskedWith one writes) (writes_asked one all writes reads w) (h.0 k),
+    λ k. h.1
+        (fewer (AskedWith one writes) (AskedWith one all) (asked_all one true all writes w) k),
+  )
 
   pub with_near : (one : Access) (all reads writes : List Access) (x y : Bool) → AreNear one false all reads → AreNear one true all writes
       → IsTrue x ↔ AllHold (AskedWith one reads) a b → IsTrue y ↔ AllHold (AskedWith one writes) a b → IsTrue (x && y) ↔ AllHold (AskedWith one all) a b
   with_near one all reads writes x y r w p q =
-      both_hold (AskedWith one reads) (AskedWith one writes) (AskedWith one all) (asked_all one false all reads r) (asked_all one true all writes w) (near_asked one all reads writes r w) x y p q
+      both_hold (AskedWith one reads) (AskedWith one writes) (AskedWith one all) (asked_all one false all reads r)
+      (asked_all one true all writes w) (near_asked one all reads writes r w) x y p q
 
   -- several accesses of the first
 
@@ -102,8 +118,14 @@ module _ (a b : JobStart) where
   pub all_fails : (ones others : List Access) (i : ℕ) (d : Access) (r : Bool) → i < length ones
       → IsTrue r ↔ AllHold (AskedWith (get_or ones i d) others) a b → r ≡ false
       → IsTrue false ↔ AllHold (Asked ones others) a b
-  all_fails ones others i d r lt is fails =
-      (λ h. absurd (false≢true h), λ h. absurd (unsure r fails (is.1 (record { each = λ t e. h.each t (record { one = get_or ones i d; there = Contains-get_or ones i d lt; asks = e }) }))))
+  all_fails ones others i d r lt is fails = (
+    λ h. absurd (false≢true h),
+    λ h. absurd
+        (unsure r fails (is.1 (record {
+          each = λ t e. h.each t
+              (record { one = get_or ones i d; there = Contains-get_or ones i d lt; asks = e });
+        }))),
+  )
 
   pub all_end : (ones others : List Access) (i : ℕ) → length ones ≤ i → AllHold (Asked (take i ones) others) a b → IsTrue true ↔ AllHold (Asked ones others) a b
   all_end ones others i past h = (λ k. subst (λ l. AllHold (Asked l others) a b) (take_all i ones past) h, λ k. refl)
@@ -124,10 +146,17 @@ module _ (a b : JobStart) where
   pub seizing_fails : (others : List Access) (i : ℕ) (d : Access) (o : Option Test) (r : Bool) → i < length others
       → o ≡ release_test (get_or others i d) → IsTrue r ↔ AllHold (λ t. o ≡ Some t) a b → r ≡ false
       → IsTrue false ↔ AllHold (AskedSeizing others) a b
-  seizing_fails others i d o r lt same is fails =
-      (λ h. absurd (false≢true h), λ h. absurd (unsure r fails (is.1 (record { each = λ t e. h.each t (record { other = get_or others i d; there = Contains-get_or others i d lt; asks = sym same ∙ e }) }))))
+  seizing_fails others i d o r lt same is fails = (
+    λ h. absurd (false≢true h),
+    λ h. absurd
+        (unsure r fails (is.1 (record {
+          each = λ t e. h.each t
+              (record { other = get_or others i d; there = Contains-get_or others i d lt; asks = sym same ∙ e });
+        }))),
+  )
 
-  pub seizing_end : (others : List Access) (i : ℕ) → length others ≤ i → AllHold (AskedSeizing (take i others)) a b → IsTrue true ↔ AllHold (AskedSeizing others) a b
+  pub seizing_end : (others : List Access) (i : ℕ) → length others ≤ i → AllHold (AskedSeizing (take i others)) a b
+      → IsTrue true ↔ AllHold (AskedSeizing others) a b
   seizing_end others i past h = (λ k. subst (λ l. AllHold (AskedSeizing l) a b) (take_all i others past) h, λ k. refl)
 
   -- a first job that may fault
@@ -138,7 +167,8 @@ module _ (a b : JobStart) where
   pub no_forlopp : (fault : Bool) (others : List Access) → fault ≡ true → a.job.forlopp ≡ 0 → IsTrue false ↔ AllHold (AskedRelease fault others) a b
   no_forlopp fault others e zero = (λ h. absurd (false≢true h), λ h. absurd (h.each test.InForlopp (record { fault_may = e; asks = inl refl }) zero))
 
-  pub released : (fault : Bool) (others : List Access) (r : Bool) → fault ≡ true → a.job.forlopp ≢ 0 → IsTrue r ↔ AllHold (AskedSeizing others) a b → IsTrue r ↔ AllHold (AskedRelease fault others) a b
+  pub released : (fault : Bool) (others : List Access) (r : Bool) → fault ≡ true → a.job.forlopp ≢ 0
+      → IsTrue r ↔ AllHold (AskedSeizing others) a b → IsTrue r ↔ AllHold (AskedRelease fault others) a b
   released fault others r e some h = (
     λ k. record { each = λ t asked. ⊎_elim (λ s. subst (TestHolds a b) (sym s) some) (λ s. (h.0 k).each t s) asked.asks },
     λ k. h.1 (record { each = λ t s. k.each t (record { fault_may = e; asks = inr s }) }),
@@ -160,22 +190,29 @@ module _ (a b : JobStart) where
   conflict_in first later None e least h = cc
   conflict_in first later (Some c) e least h = h.apart c least.0
 
-  no_conflict_in : (first later : Summary) (o : Option Conflict) → is_some o ≡ false → IsLeastConflict (IsConflict first later) o → (c : Conflict) → IsConflict first later c → ⊥
+  no_conflict_in : (first later : Summary) (o : Option Conflict) → is_some o ≡ false
+      → IsLeastConflict (IsConflict first later) o → (c : Conflict) → IsConflict first later c → ⊥
   unfolding IsLeastConflict
   no_conflict_in first later None e least = least
   no_conflict_in first later (Some c) e least = cc
 
-  pub conflicting : (first later : Summary) (o : Option Conflict) → is_some o ≡ true → IsLeastConflict (IsConflict first later) o → IsTrue false ↔ Passes first later a b
+  pub conflicting : (first later : Summary) (o : Option Conflict) → is_some o ≡ true
+      → IsLeastConflict (IsConflict first later) o → IsTrue false ↔ Passes first later a b
   conflicting first later o e least = (λ h. absurd (false≢true h), λ h. absurd (conflict_in first later o e least h))
 
   pub passing : (first later : Summary) (o : Option Conflict) (x y : Bool) → is_some o ≡ false → IsLeastConflict (IsConflict first later) o
       → IsTrue x ↔ AllHold (IsTest first later) a b → IsTrue y ↔ (a.job.forlopp ≡ b.job.forlopp → a.job.forlopp ≡ 0) → IsTrue (x && y) ↔ Passes first later a b
-  passing first later o true y e least p q = (λ h. record { apart = no_conflict_in first later o e least; tests = (p.0 refl).each; forlopps = q.0 h }, λ h. q.1 h.forlopps)
+  passing first later o true y e least p q = (
+    λ h. record
+        { apart = no_conflict_in first later o e least; tests = (p.0 refl).each; forlopps = q.0 h },
+    λ h. q.1 h.forlopps,
+  )
   passing first later o false y e least p q = (λ h. absurd (false≢true h), λ h. p.1 (record { each = h.tests }))
 
 -- a chain without records of a file
 
-pub held_none : (chain : List Held) (file : ℕ) (r : Bool) → IsTrue r ↔ All (λ (h : Held). h.file ≢ file) chain → IsTrue r ↔ ((h : Held) → Contains chain h → h.file ≢ file)
+pub held_none : (chain : List Held) (file : ℕ) (r : Bool) → IsTrue r ↔ All (λ (h : Held). h.file ≢ file) chain
+    → IsTrue r ↔ ((h : Held) → Contains chain h → h.file ≢ file)
 held_none chain file r is =
     (λ k h at. All-contains (λ (h : Held). h.file ≢ file) chain h (is.0 k) at, λ each. is.1 (λ k d lt. each (get_or chain k d) (Contains-get_or chain k d lt)))
 

@@ -1,13 +1,16 @@
 -- The first of several conflicts.
-use Rattle.std.proofs.Common.{◌≡◌, ◌⊎◌, inl, inr, ⊎_elim, ℕ, ◌+◌, ◌<◌, List, [], ◌∷◌, ◌++◌, length, take, get_or, Option, Some, None, refl, sym, ap, ◌∙◌, subst}
+use Rattle.std.proofs.Common.{◌≡◌, ◌⊎◌, inl, inr, ⊎_elim, ℕ, ◌+◌, ◌<◌, List, [], ◌∷◌, ◌++◌, length}
+use Rattle.std.proofs.Common.{take, get_or, Option, Some, None, refl, sym, ap, ◌∙◌, subst}
 use Rattle.std.proofs.lemmas.List.{take_more}
-use Rattle.std.proofs.lemmas.List.Elements.{Contains-append_left, Contains-push, Contains-push_cases}
+use Rattle.std.proofs.lemmas.List.Elements.{Contains-append_left, Contains-push}
+use Rattle.std.proofs.lemmas.List.Elements.{Contains-push_cases}
 use Rattle.std.proofs.lemmas.Option.{none-some, same_Some}
 use Rattle.plex_num.specs.declared.level.Level.{Level}
 use Rattle.plex_num.proofs.Members.{none_in}
 use Rattle.entry_summary.specs.declared.summary.Access.{Access}
 use Rattle.pair_tests.specs.declared.pair.Conflict.{Conflict}
-use Rattle.pair_tests.specs.Clashes.{clash_of, above_of, ClashesWith, Clashes, ClashesAbove, IsLeastConflict, IsSooner}
+use Rattle.pair_tests.specs.Clashes.{clash_of, above_of, ClashesWith, Clashes, ClashesAbove}
+use Rattle.pair_tests.specs.Clashes.{IsLeastConflict, IsSooner}
 use Rattle.pair_tests.specs.Orders.{Precedes}
 use Rattle.pair_tests.proofs.Preceding.{none_before_itself, precedes_trans, not_before}
 
@@ -22,7 +25,8 @@ least_one None = λ c e. none-some c e
 least_one (Some b) = (refl, λ d e before. none_before_itself b (subst (λ x. Precedes x b) (sym (same_Some b d e)) before))
 
 -- of the same conflicts
-pub least_same : (P R : Conflict → Type 0) → ((c : Conflict) → P c → R c) → ((c : Conflict) → R c → P c) → (result : Option Conflict) → IsLeastConflict P result → IsLeastConflict R result
+pub least_same : (P R : Conflict → Type 0) → ((c : Conflict) → P c → R c) → ((c : Conflict) → R c → P c)
+    → (result : Option Conflict) → IsLeastConflict P result → IsLeastConflict R result
 unfolding IsLeastConflict
 least_same P R to from None least = λ c h. least c (from c h)
 least_same P R to from (Some b) least = (to b least.0, λ c h. least.1 c (from c h))
@@ -37,7 +41,11 @@ least_joined P Q R from_p from_q cases None (Some d) result p q is =
 least_joined P Q R from_p from_q cases (Some b) None result p q is =
     subst (IsLeastConflict R) (sym is) (from_p b p.0, λ c h before. ⊎_elim (λ k. p.1 c k before) (λ k. absurd (q c k)) (cases c h))
 least_joined P Q R from_p from_q cases (Some b) (Some d) result p q (inl is) =
-    subst (IsLeastConflict R) (sym is.0) (from_q d q.0, λ c h before. ⊎_elim (λ k. p.1 c k (precedes_trans c d b before is.1)) (λ k. q.1 c k before) (cases c h))
+    subst (IsLeastConflict R) (sym is.0) (
+      from_q d q.0,
+      λ c h before. ⊎_elim
+          (λ k. p.1 c k (precedes_trans c d b before is.1)) (λ k. q.1 c k before) (cases c h),
+    )
 least_joined P Q R from_p from_q cases (Some b) (Some d) result p q (inr is) =
     subst (IsLeastConflict R) (sym is.0) (from_p b p.0, λ c h before. ⊎_elim (λ k. p.1 c k before) (λ k. not_before b c d is.1 (q.1 c k) before) (cases c h))
 
@@ -96,7 +104,8 @@ pub above_none : (later : Level) → IsLeastConflict (ClashesAbove [] later) Non
 above_none later = least_none (ClashesAbove [] later) (λ c h. none_in h.level h.there)
 
 above_pushed : (done : List Level) (later new : Level) (least result : Option Conflict)
-    → IsLeastConflict (ClashesAbove done later) least → IsSooner least (above_of new later) result → IsLeastConflict (ClashesAbove (done ++ new ∷ []) later) result
+    → IsLeastConflict (ClashesAbove done later) least → IsSooner least (above_of new later) result
+    → IsLeastConflict (ClashesAbove (done ++ new ∷ []) later) result
 above_pushed done later new least result before is =
     least_joined (ClashesAbove done later) (λ c. above_of new later ≡ Some c) (ClashesAbove (done ++ new ∷ []) later)
     (λ c h. record { level = h.level; there = Contains-append_left done (new ∷ []) h.level h.there; clash = h.clash })

@@ -1,5 +1,7 @@
 -- The accesses of one number stand side by side in a list in order.
-use Rattle.std.proofs.Common.{◌≡◌, ◌⊎◌, inl, inr, ⊎_elim, ℕ, ◌+◌, ◌-◌, ◌<◌, ◌≤◌, Bool, true, false, ◌&&◌, ◌||◌, ◌≢◌, not, nat_eq, List, length, take, drop, get_or, Option, Some, None, refl, sym, ap, ◌∙◌, subst, arith}
+use Rattle.std.proofs.Common.{◌≡◌, ◌⊎◌, inl, inr, ⊎_elim, ℕ, ◌+◌, ◌-◌, ◌<◌, ◌≤◌, Bool, true, false}
+use Rattle.std.proofs.Common.{◌&&◌, ◌||◌, ◌≢◌, not, nat_eq, List, length, take, drop, get_or}
+use Rattle.std.proofs.Common.{Option, Some, None, refl, sym, ap, ◌∙◌, subst, arith}
 use Rattle.std.specs.declared.cmp.Ordering.{Ordering}
 use Rattle.std.specs.declared.cmp.Ordering.TheVariants.{Less, Equal, Greater}
 use Rattle.std.specs.Cmp.{IsTotalOrder, nat_cmp_total}
@@ -19,7 +21,8 @@ use Rattle.plex_num.proofs.Numbers.{is_less}
 use Rattle.flow_points.specs.declared.fact.Value.{Value}
 use Rattle.flow_points.specs.declared.fact.Value.TheVariants.{Arg, Const, Any}
 use Rattle.entry_summary.specs.declared.summary.Access.{Access}
-use Rattle.entry_summary.specs.declared.summary.Access.TheVariants.{Variable, Field, Own, Seizes, Frees}
+use Rattle.entry_summary.specs.declared.summary.Access.TheVariants.{Variable, Field, Own, Seizes}
+use Rattle.entry_summary.specs.declared.summary.Access.TheVariants.{Frees}
 use Rattle.entry_summary.specs.contracts.summary.AccessOrd.TheImpl.Laws.{total-law}
 use Rattle.entry_summary.specs.Orders.{access_order, value_order}
 use Rattle.pair_tests.specs.declared.pair.Conflict.{Conflict}
@@ -29,7 +32,8 @@ use Rattle.pair_tests.specs.Clashes.{share, meet, clash_of, ClashesWith, IsLeast
 use Rattle.pair_tests.specs.Asked.{asked_of, selector_test}
 use Rattle.pair_tests.specs.declared.near.Bound.{Bound}
 use Rattle.pair_tests.specs.declared.near.Bound.TheVariants.{Below, UpTo}
-use Rattle.pair_tests.specs.Nearby.{file_access, lowest, highest, passes_reads, within, IsNear, AreCounted, AreNear, ArePast, AreWithin}
+use Rattle.pair_tests.specs.Nearby.{file_access, lowest, highest, passes_reads, within, IsNear}
+use Rattle.pair_tests.specs.Nearby.{AreCounted, AreNear, ArePast, AreWithin}
 use Rattle.pair_tests.proofs.Leasts.{least_joined, least_same}
 use Rattle.pair_tests.proofs.Conflicting.{shared, chosen}
 
@@ -49,7 +53,8 @@ up_to x y high below le = up_to_at x y high (access_order y high) below refl le
 pub below_parted : (xs : List Access) (low : Access) → IsStrictlySortedBy access_order xs → IsPartitionedBy (λ a. is_lt (access_order a low)) xs
 below_parted xs low up i j d le lt passes =
     ⊎_elim
-    (λ before. ap is_lt (accesses_total.trans (get_or xs i d) (get_or xs j d) low (Less-from_sorted access_order xs i j d up before lt) (is_less (access_order (get_or xs j d) low) passes)))
+    (λ before. ap is_lt (accesses_total.trans (get_or xs i d) (get_or xs j d) low
+    (Less-from_sorted access_order xs i j d up before lt) (is_less (access_order (get_or xs j d) low) passes)))
     (λ past. (let e : i ≡ j = omega arith in subst (λ k. is_lt (access_order (get_or xs k d) low) ≡ true) (sym e) passes))
     (cases_lt i j)
 
@@ -129,7 +134,8 @@ not_above x = ap is_le (itself x)
 
 near_low : (one : Access) (v : Bool) (b : Access) → IsNear one v b → is_lt (access_order b (lowest one v)) ≡ false
 near_low (Variable w n) v b e = subst (λ x. is_lt (access_order x (Variable v n)) ≡ false) (sym e) (not_below (Variable v n))
-near_low (Field w n u) v b e = subst (λ x. is_lt (access_order x (Field v n (Arg 0))) ≡ false) (sym e.1) (ap is_lt (field_order v n e.0 (Arg 0)) ∙ not_below_arg e.0)
+near_low (Field w n u) v b e = subst (λ x. is_lt (access_order x (Field v n (Arg 0))) ≡ false) (sym e.1)
+    (ap is_lt (field_order v n e.0 (Arg 0)) ∙ not_below_arg e.0)
 near_low (Own w n) v b e = subst (λ x. is_lt (access_order x (Own v n)) ≡ false) (sym e) (not_below (Own v n))
 near_low (Seizes f) v b e = subst (λ x. is_lt (access_order x (file_access f v)) ≡ false) (sym e) (not_below (file_access f v))
 near_low (Frees f) v b e = subst (λ x. is_lt (access_order x (file_access f v)) ≡ false) (sym e) (not_below (file_access f v))
@@ -167,10 +173,13 @@ near_part one v low high xs some from to is_low is_high begins ends is =
     subst (AreNear one v xs) (sym is)
     (record {
       each = part_from xs from to;
-      near = λ b at near. placed b at.0 at.1 at.2 (subst (λ x. is_lt (access_order b x) ≡ false) (sym is_low) (near_low one v b near)) (subst (λ x. is_le (access_order b x) ≡ true) (sym is_high) (near_high one v b near));
+      near = λ b at near. placed b at.0 at.1 at.2
+          (subst (λ x. is_lt (access_order b x) ≡ false) (sym is_low) (near_low one v b near))
+          (subst (λ x. is_le (access_order b x) ≡ true) (sym is_high) (near_high one v b near));
     })
   where
-    placed : (b : Access) (k : ℕ) → k < length xs → get_or xs k b ≡ b → is_lt (access_order b low) ≡ false → is_le (access_order b high) ≡ true → Contains (drop from (take to xs)) b
+    placed : (b : Access) (k : ℕ) → k < length xs → get_or xs k b ≡ b → is_lt (access_order b low) ≡ false
+        → is_le (access_order b high) ≡ true → Contains (drop from (take to xs)) b
     placed b k lt at l h =
         let above : from ≤ k = ⊎_elim
         (λ past. absurd (both_ways (is_lt (access_order b low)) l (subst (λ x. is_lt (access_order x low) ≡ true) at (begins.parts.0 k b (omega arith) past))))
@@ -195,9 +204,12 @@ by_write one true b near = inr near
 by_write one false b near = inl near
 
 pub clash_near : (one b : Access) (c : Conflict) → clash_of one b ≡ Some c → IsNear one false b ⊎ IsNear one true b
-clash_near (Variable w n) (Variable v m) c e = by_write (Variable w n) v (Variable v m) (same_variable v n m (shared n m w v (chosen (share n m w v) (conflict.Variable n) c e).0).number)
+clash_near (Variable w n) (Variable v m) c e = by_write (Variable w n) v (Variable v m)
+    (same_variable v n m (shared n m w v (chosen (share n m w v) (conflict.Variable n) c e).0).number)
 clash_near (Field w n u) (Field v m z) c e =
-    by_write (Field w n u) v (Field v m z) (same_field v n m z (shared n m w v (and_parts (share n m w v) (meet u z) (chosen (share n m w v && meet u z) (conflict.Field n u z) c e).0).0).number)
+    by_write (Field w n u) v (Field v m z) (same_field v n m z
+    (shared n m w v (and_parts (share n m w v) (meet u z)
+    (chosen (share n m w v && meet u z) (conflict.Field n u z) c e).0).0).number)
 clash_near (Seizes f) (Seizes g) c e = inl (ap Seizes (sym (eqb-true f g (chosen (nat_eq f g) (conflict.Seizing f) c e).0)))
 clash_near (Seizes f) (Frees g) c e = inr (ap Frees (sym (eqb-true f g (chosen (nat_eq f g) (conflict.Seizing f) c e).0)))
 clash_near (Frees f) (Seizes g) c e = inl (ap Seizes (sym (eqb-true f g (chosen (nat_eq f g) (conflict.Seizing f) c e).0)))
@@ -208,7 +220,8 @@ asks true o t e = (refl, e)
 asks false o t e = absurd (none-some t e)
 
 pub asked_near : (one b : Access) (t : Test) → asked_of one b ≡ Some t → IsNear one false b ⊎ IsNear one true b
-asked_near (Field w n u) (Field v m z) t e = by_write (Field w n u) v (Field v m z) (same_field v n m z (shared n m w v (asks (share n m w v) (selector_test u z) t e).0).number)
+asked_near (Field w n u) (Field v m z) t e = by_write (Field w n u) v (Field v m z)
+    (same_field v n m z (shared n m w v (asks (share n m w v) (selector_test u z) t e).0).number)
 asked_near _ _ t e = absurd (none-some t e)
 
 -- what an access that reads has to do with an access, that one writes
@@ -247,7 +260,8 @@ least_writes one all some writes reads w first =
 
 pub least_near : (one : Access) (all some_reads some_writes : List Access) (reads writes result : Option Conflict)
     → AreNear one false all some_reads → AreNear one true all some_writes
-    → IsLeastConflict (ClashesWith one some_reads) reads → IsLeastConflict (ClashesWith one some_writes) writes → IsSooner reads writes result → IsLeastConflict (ClashesWith one all) result
+    → IsLeastConflict (ClashesWith one some_reads) reads → IsLeastConflict (ClashesWith one some_writes) writes
+    → IsSooner reads writes result → IsLeastConflict (ClashesWith one all) result
 least_near one all some_reads some_writes reads writes result r w first second is =
     least_joined (ClashesWith one some_reads) (ClashesWith one some_writes) (ClashesWith one all)
     (λ c h. record { other = h.other; there = r.each h.other h.there; clash = h.clash })

@@ -33,7 +33,8 @@ selectors_trans u v w z s t (inl p) (inr q) = inl (subst (λ x. value_order u x 
 selectors_trans u v w z s t (inr p) (inl q) = inl (subst (λ x. value_order x s ≡ Less) (sym p.0) q)
 selectors_trans u v w z s t (inr p) (inr q) = inr (p.0 ∙ q.0, values_total.trans v z t p.1 q.1)
 
-pub fields_trans : (n m k : ℕ) (u v w z s t : Value) → Precedes (Field n u v) (Field m w z) → Precedes (Field m w z) (Field k s t) → Precedes (Field n u v) (Field k s t)
+pub fields_trans : (n m k : ℕ) (u v w z s t : Value) → Precedes (Field n u v) (Field m w z)
+    → Precedes (Field m w z) (Field k s t) → Precedes (Field n u v) (Field k s t)
 fields_trans n m k u v w z s t (inl p) (inl q) = inl (omega arith)
 fields_trans n m k u v w z s t (inl p) (inr q) = (let e = q.0 in inl (omega arith))
 fields_trans n m k u v w z s t (inr p) (inl q) = (let e = p.0 in inl (omega arith))
@@ -129,17 +130,20 @@ same_level C C e = refl
 same_level D D e = refl
 same_level _ _ e = absurd (omega arith)
 
-numbers_ranked : (c d : ℕ → Conflict) (n m : ℕ) → ((k : ℕ) → c k ≡ d k) → (n < m → Precedes (c n) (d m)) → (m < n → Precedes (d m) (c n)) → (n ≡ m) ⊎ ((n < m) ⊎ (m < n)) → Ranked (c n) (d m)
+numbers_ranked : (c d : ℕ → Conflict) (n m : ℕ) → ((k : ℕ) → c k ≡ d k) → (n < m → Precedes (c n) (d m))
+    → (m < n → Precedes (d m) (c n)) → (n ≡ m) ⊎ ((n < m) ⊎ (m < n)) → Ranked (c n) (d m)
 numbers_ranked c d n m same before after (inl h) = Same (same n ∙ ap d h)
 numbers_ranked c d n m same before after (inr (inl h)) = Before (before h)
 numbers_ranked c d n m same before after (inr (inr h)) = After (after h)
 
 field_ranked : (n m : ℕ) (u v w z : Value) → (n ≡ m) ⊎ ((n < m) ⊎ (m < n)) → Ranked (Field n u v) (Field m w z)
-field_ranked n m u v w z (inl h) = subst (λ k. Ranked (Field n u v) (Field k w z)) h (fields_ranked n u v w z (selectors_ranked u v w z (told (value_order u w))))
+field_ranked n m u v w z (inl h) = subst (λ k. Ranked (Field n u v) (Field k w z)) h
+    (fields_ranked n u v w z (selectors_ranked u v w z (told (value_order u w))))
 field_ranked n m u v w z (inr (inl h)) = Before (inl h)
 field_ranked n m u v w z (inr (inr h)) = After (inl h)
 
-level_ranked : (l m : Level) → (level_number l ≡ level_number m) ⊎ ((level_number l < level_number m) ⊎ (level_number m < level_number l)) → Ranked (Above l) (Above m)
+level_ranked : (l m : Level) → (level_number l ≡ level_number m)
+    ⊎ ((level_number l < level_number m) ⊎ (level_number m < level_number l)) → Ranked (Above l) (Above m)
 level_ranked l m (inl h) = Same (ap Above (same_level l m h))
 level_ranked l m (inr (inl h)) = Before h
 level_ranked l m (inr (inr h)) = After h

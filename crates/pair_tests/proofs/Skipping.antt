@@ -1,5 +1,8 @@
--- Accesses of one kind stand side by side, by their numbers, so that those which nothing is near are passed at once.
-use Rattle.std.proofs.Common.{◌≡◌, ◌⊎◌, inl, inr, ⊎_elim, ℕ, ◌+◌, ◌<◌, ◌≤◌, Bool, true, false, ◌&&◌, List, length, take, get_or, Option, Some, None, refl, sym, ap, ◌∙◌, subst, arith}
+-- Accesses of one kind stand side by side, by their numbers, so that those which nothing is near
+-- are passed at once.
+use Rattle.std.proofs.Common.{◌≡◌, ◌⊎◌, inl, inr, ⊎_elim, ℕ, ◌+◌, ◌<◌, ◌≤◌, Bool, true, false, ◌&&◌}
+use Rattle.std.proofs.Common.{List, length, take, get_or, Option, Some, None, refl, sym, ap, ◌∙◌}
+use Rattle.std.proofs.Common.{subst, arith}
 use Rattle.std.specs.declared.cmp.Ordering.{Ordering}
 use Rattle.std.specs.declared.cmp.Ordering.TheVariants.{Less, Equal, Greater}
 use Rattle.std.specs.Ordering.{nat_cmp, ordering_then, is_lt}
@@ -10,12 +13,14 @@ use Rattle.std.proofs.lemmas.Bool.{cases_lt, both_ways, ltb-true}
 use Rattle.std.proofs.lemmas.Bool.Decides.{nat_tests}
 use Rattle.std.proofs.lemmas.List.{get_or-take, length-take, take_all}
 use Rattle.std.proofs.lemmas.Map.Keys.{Less-from_sorted}
-use Rattle.std.proofs.lemmas.Option.{get_or_from_slice_get, none-some, slice_get-get_or, slice_get_within}
+use Rattle.std.proofs.lemmas.Option.{get_or_from_slice_get, none-some, slice_get-get_or}
+use Rattle.std.proofs.lemmas.Option.{slice_get_within}
 use Rattle.plex_num.proofs.Numbers.{is_less, nat_same}
 use Rattle.flow_points.specs.declared.fact.Value.{Value}
 use Rattle.flow_points.specs.declared.fact.Value.TheVariants.{Arg}
 use Rattle.entry_summary.specs.declared.summary.Access.{Access}
-use Rattle.entry_summary.specs.declared.summary.Access.TheVariants.{Variable, Field, Own, Seizes, Frees}
+use Rattle.entry_summary.specs.declared.summary.Access.TheVariants.{Variable, Field, Own, Seizes}
+use Rattle.entry_summary.specs.declared.summary.Access.TheVariants.{Frees}
 use Rattle.entry_summary.specs.Orders.{access_order, value_order}
 use Rattle.pair_tests.specs.declared.near.Bound.TheVariants.{Below}
 use Rattle.pair_tests.specs.declared.pair.Conflict.{Conflict}
@@ -23,14 +28,17 @@ use Rattle.pair_tests.specs.declared.pair.Conflict.TheVariants as conflict
 use Rattle.pair_tests.specs.declared.pair.Test.{Test}
 use Rattle.job_types.specs.declared.job.JobStart.{JobStart}
 use Rattle.pair_tests.specs.Asked.{asked_of, AddsTests, AllHold, Asked, AskedWith}
-use Rattle.pair_tests.specs.Clashes.{share, meet, clash_of, Clashes, ClashesWith, IsLeastConflict, IsSooner}
-use Rattle.pair_tests.specs.Idle.{behind, next_met, comes_late, variables, fields, owns, AreSo, Follows, IsApart, IsIdle, IsLate, IsPassed}
+use Rattle.pair_tests.specs.Clashes.{share, meet, clash_of, Clashes, ClashesWith, IsLeastConflict}
+use Rattle.pair_tests.specs.Clashes.{IsSooner}
+use Rattle.pair_tests.specs.Idle.{behind, next_met, comes_late, variables, fields, owns, AreSo}
+use Rattle.pair_tests.specs.Idle.{Follows, IsApart, IsIdle, IsLate, IsPassed}
 use Rattle.pair_tests.specs.Nearby.{lowest, passes_reads, AreCounted}
 use Rattle.pair_tests.specs.Orders.{Precedes}
 use Rattle.pair_tests.proofs.Conflicting.{chosen}
 use Rattle.pair_tests.proofs.Holding.{all_fails, all_more as all_hold_more}
 use Rattle.pair_tests.proofs.Leasts.{of_more}
-use Rattle.pair_tests.proofs.Nearing.{accesses_total, itself, clash_near, clash_writes, asked_near, asked_writes, not_below_arg}
+use Rattle.pair_tests.proofs.Nearing.{accesses_total, itself, clash_near, clash_writes, asked_near}
+use Rattle.pair_tests.proofs.Nearing.{asked_writes, not_below_arg}
 use Rattle.pair_tests.proofs.Tested.{all_more}
 
 -- numbers and selectors in order
@@ -51,7 +59,8 @@ no_less_arg z e = both_ways (is_lt (value_order z (Arg 0))) (not_below_arg z) (a
 
 -- a number and a selector before those: the number is not above
 up_to : (n m : ℕ) (u z : Value) → ordering_then (nat_cmp n m) (value_order u z) ≡ Less → n ≤ m
-up_to n m u z e = ⊎_elim (λ l. (let lt = less_is n m l in omega (arith, lt))) (λ s. (let is = nat_same n m s.0 in omega (arith, is))) (then_less (nat_cmp n m) (value_order u z) e)
+up_to n m u z e = ⊎_elim (λ l. (let lt = less_is n m l in omega (arith, lt)))
+    (λ s. (let is = nat_same n m s.0 in omega (arith, is))) (then_less (nat_cmp n m) (value_order u z) e)
 
 -- before the first selector of a number: the number is below
 below : (n m : ℕ) (u : Value) → ordering_then (nat_cmp n m) (value_order u (Arg 0)) ≡ Less → n < m
@@ -122,10 +131,12 @@ follows one r (inr same) e = subst (Follows one) same (follows_itself one (subst
 
 -- those behind one in a list in order
 
-from_place : (xs : List Access) (one : Access) (i k : ℕ) (d : Access) → IsStrictlySortedBy access_order xs → slice_get xs i ≡ Some one → i ≤ k → k < length xs → From one (get_or xs k d)
+from_place : (xs : List Access) (one : Access) (i k : ℕ) (d : Access) → IsStrictlySortedBy access_order xs
+    → slice_get xs i ≡ Some one → i ≤ k → k < length xs → From one (get_or xs k d)
 from_place xs one i k d up at low lt =
     ⊎_elim
-    (λ before. inl (subst (λ x. access_order x (get_or xs k d) ≡ Less) (get_or_from_slice_get xs i one d at) (Less-from_sorted access_order xs i k d up before lt)))
+    (λ before. inl (subst (λ x. access_order x (get_or xs k d) ≡ Less) (get_or_from_slice_get xs i one d at)
+    (Less-from_sorted access_order xs i k d up before lt)))
     (λ past. (let e : i ≡ k = omega (arith, low, past) in inr (sym (get_or_from_slice_get xs i one d at) ∙ ap (λ j. get_or xs j d) e)))
     (cases_lt i k)
 
@@ -134,17 +145,21 @@ from_place xs one i k d up at low lt =
 pub none_passed : (P : Access → Type 0) (xs : List Access) (place : ℕ) → place ≤ length xs → AreSo P xs place place
 none_passed P xs place there = record { there = there; up = omega arith; each = λ k d low high. absurd (omega (arith, low, high)) }
 
-pub none_late : (xs : List Access) (first : Option Conflict) (place : ℕ) → place ≤ length xs → (others : List Access) → AreSo (IsLate first others) xs place place
+pub none_late : (xs : List Access) (first : Option Conflict) (place : ℕ) → place ≤ length xs → (others : List Access)
+    → AreSo (IsLate first others) xs place place
 none_late xs first place there others = none_passed (IsLate first others) xs place there
 
-pub passed_below : (xs : List Access) (bound : Access) (place count : ℕ) → place < count → AreCounted (Below bound) xs count → AreSo (λ a. access_order a bound ≡ Less) xs place count
+pub passed_below : (xs : List Access) (bound : Access) (place count : ℕ) → place < count
+    → AreCounted (Below bound) xs count → AreSo (λ a. access_order a bound ≡ Less) xs place count
 passed_below xs bound place count lt counted = record {
   there = counted.there;
   up = omega (arith, lt);
   each = λ k d low high. is_less (access_order (get_or xs k d) bound) (counted.parts.0 k d (omega arith) high);
 }
 
-pub so_less : (P Q : Access → Type 0) (xs : List Access) (from to : ℕ) → ((k : ℕ) (d : Access) → from ≤ k → k < length xs → P (get_or xs k d) → Q (get_or xs k d)) → AreSo P xs from to → AreSo Q xs from to
+pub so_less : (P Q : Access → Type 0) (xs : List Access) (from to : ℕ)
+    → ((k : ℕ) (d : Access) → from ≤ k → k < length xs → P (get_or xs k d) → Q (get_or xs k d)) → AreSo P xs from to
+    → AreSo Q xs from to
 so_less P Q xs from to less so = record {
   there = so.there;
   up = so.up;
@@ -158,7 +173,8 @@ so_then P xs from mid to one two = record {
   each = λ k d low high. ⊎_elim (λ lt. one.each k d low lt) (λ past. two.each k d past high) (cases_lt k mid);
 }
 
--- what is near an access, in a list in order, is no sooner there than the first that is not below those
+-- what is near an access, in a list in order, is no sooner there than the first that is not below
+-- those
 
 record FirstFrom (xs : List Access) (low : Access) (from : ℕ) (b : Access) : Type 0 where
   first : Access
@@ -166,10 +182,12 @@ record FirstFrom (xs : List Access) (low : Access) (from : ℕ) (b : Access) : T
   above : is_lt (access_order first low) ≡ false
   upward : From first b
 
-first_from : (xs : List Access) (low : Access) (from : ℕ) (b : Access) → IsStrictlySortedBy access_order xs → AreCounted (Below low) xs from → Contains xs b → is_lt (access_order b low) ≡ false → FirstFrom xs low from b
+first_from : (xs : List Access) (low : Access) (from : ℕ) (b : Access) → IsStrictlySortedBy access_order xs
+    → AreCounted (Below low) xs from → Contains xs b → is_lt (access_order b low) ≡ false → FirstFrom xs low from b
 first_from xs low from b up counted (k, lt, is) above =
     let later : from ≤ k = ⊎_elim
-    (λ before. absurd (both_ways (is_lt (access_order b low)) above (subst (λ x. is_lt (access_order x low) ≡ true) is (counted.parts.0 k b (omega arith) before))))
+    (λ before. absurd (both_ways (is_lt (access_order b low)) above
+    (subst (λ x. is_lt (access_order x low) ≡ true) is (counted.parts.0 k b (omega arith) before))))
     (λ past. past)
     (cases_lt k from) in
     let inside : from < length xs = omega (arith, later, lt) in
@@ -204,7 +222,9 @@ variable_number true k m (inl e) = (let lt = less_is k m e in omega (arith, lt))
 variable_number false k m (inl e) = (let lt = less_is k m e in omega (arith, lt))
 variable_number v k m (inr e) = (let is : k ≡ m = cc in omega (arith, is))
 
-variable_met : (w v : Bool) (n m : ℕ) (x : Access) → From x (Variable v m) → is_lt (access_order x (Variable v n)) ≡ false → access_order (Variable w m) (next_met (Variable w n) v (Some x)) ≡ Less → ⊥
+variable_met : (w v : Bool) (n m : ℕ) (x : Access) → From x (Variable v m)
+    → is_lt (access_order x (Variable v n)) ≡ false
+    → access_order (Variable w m) (next_met (Variable w n) v (Some x)) ≡ Less → ⊥
 variable_met true true n m (Variable true k) from above e = (let le = variable_number true k m from in let lt = less_is m k e in omega (arith, le, lt))
 variable_met false true n m (Variable true k) from above e = (let le = variable_number true k m from in let lt = less_is m k e in omega (arith, le, lt))
 variable_met true false n m (Variable false k) from above e = (let le = variable_number false k m from in let lt = less_is m k e in omega (arith, le, lt))
@@ -230,7 +250,9 @@ field_number true k m y z (inl e) = up_to k m y z e
 field_number false k m y z (inl e) = up_to k m y z e
 field_number v k m y z (inr e) = (let is : k ≡ m = cc in omega (arith, is))
 
-field_met : (w v : Bool) (n m : ℕ) (u t z : Value) (x : Access) → From x (Field v m z) → is_lt (access_order x (Field v n (Arg 0))) ≡ false → access_order (Field w m t) (next_met (Field w n u) v (Some x)) ≡ Less → ⊥
+field_met : (w v : Bool) (n m : ℕ) (u t z : Value) (x : Access) → From x (Field v m z)
+    → is_lt (access_order x (Field v n (Arg 0))) ≡ false
+    → access_order (Field w m t) (next_met (Field w n u) v (Some x)) ≡ Less → ⊥
 field_met true true n m u t z (Field true k y) from above e = (let le = field_number true k m y z from in let lt = below m k t e in omega (arith, le, lt))
 field_met false true n m u t z (Field true k y) from above e = (let le = field_number true k m y z from in let lt = below m k t e in omega (arith, le, lt))
 field_met true false n m u t z (Field false k y) from above e = (let le = field_number false k m y z from in let lt = below m k t e in omega (arith, le, lt))
@@ -265,13 +287,15 @@ goal_behind (Own w n) v o = inr refl
 goal_behind _ _ _ = inl refl
 
 before_behind : (one : Access) (v : Bool) (o : Option Access) (r : Access) → access_order r (next_met one v o) ≡ Less → access_order r (behind one) ≡ Less
-before_behind one v o r e = ⊎_elim (λ same. subst (λ x. access_order r x ≡ Less) same e) (λ less. accesses_total.trans r (next_met one v o) (behind one) e less) (goal_behind one v o)
+before_behind one v o r e = ⊎_elim (λ same. subst (λ x. access_order r x ≡ Less) same e)
+    (λ less. accesses_total.trans r (next_met one v o) (behind one) e less) (goal_behind one v o)
 
 not_before : (one r : Access) → From one r → access_order r one ≡ Less → ⊥
 not_before one r (inl up) e = never one r up e
 not_before one r (inr same) e = (let t = itself r in let f = subst (λ x. access_order r x ≡ Less) same e in let c : Equal ≡ Less = sym t ∙ f in cc)
 
-near_apart : (v : Bool) (others : List Access) (from : ℕ) (one r : Access) → IsStrictlySortedBy access_order others → AreCounted (Below (lowest one v)) others from
+near_apart : (v : Bool) (others : List Access) (from : ℕ) (one r : Access) → IsStrictlySortedBy access_order others
+    → AreCounted (Below (lowest one v)) others from
     → Follows one r → From one r → access_order r (next_met one v (slice_get others from)) ≡ Less → IsApart v others r
 near_apart v others from _ _ up counted (variables w n m le) later e b c near =
     let f = first_from others (Variable v n) from (Variable v m) up counted (subst (Contains others) near c) (not_below_variable v n m le) in
@@ -283,7 +307,8 @@ near_apart v others from _ _ up counted (owns w t n m) later e b c near = not_be
 
 -- from the place of an access on, as far as a bound is not passed
 
-follow_on : (ones : List Access) (one : Access) (place k : ℕ) (d : Access) → IsStrictlySortedBy access_order ones → slice_get ones place ≡ Some one → place ≤ k → k < length ones
+follow_on : (ones : List Access) (one : Access) (place k : ℕ) (d : Access) → IsStrictlySortedBy access_order ones
+    → slice_get ones place ≡ Some one → place ≤ k → k < length ones
     → access_order (get_or ones k d) (behind one) ≡ Less → Follows one (get_or ones k d)
 follow_on ones one place k d up at low lt e = follows one (get_or ones k d) (from_place ones one place k d up at low lt) e
 
@@ -294,11 +319,14 @@ pub apart_passed : (ones others : List Access) (one low goal : Access) (v : Bool
 apart_passed ones others one low goal v o place from to up sorted at is counted next met so =
     so_less (λ a. access_order a goal ≡ Less) (IsPassed one v others) ones place to
     (λ k d above lt less.
-    let e : access_order (get_or ones k d) (next_met one v (slice_get others from)) ≡ Less = subst (λ x. access_order (get_or ones k d) x ≡ Less) (met ∙ ap (next_met one v) next) less in
+    let e : access_order (get_or ones k d) (next_met one v (slice_get others from))
+    ≡ Less = subst (λ x. access_order (get_or ones k d) x ≡ Less) (met ∙ ap (next_met one v) next) less in
     let kind = follow_on ones one place k d up at above lt (before_behind one v (slice_get others from) (get_or ones k d) e) in
     record {
       follows = kind;
-      apart = near_apart v others from one (get_or ones k d) sorted (subst (λ x. AreCounted (Below x) others from) is counted) kind (from_place ones one place k d up at above lt) e;
+      apart = near_apart v others from one (get_or ones k d) sorted
+          (subst (λ x. AreCounted (Below x) others from) is counted) kind (from_place ones one place k d up at above lt)
+          e;
     })
     so
 
@@ -344,11 +372,13 @@ pub own_idle : (ones others : List Access) (one goal : Access) (w : Bool) (n pla
 own_idle ones others one goal w n place to up at is met so =
     so_less (λ a. access_order a goal ≡ Less) (IsIdle others) ones place to
     (λ k d above lt less.
-    let r = own_alike one (get_or ones k d) w n is (follow_on ones one place k d up at above lt (subst (λ x. access_order (get_or ones k d) x ≡ Less) met less)) in
+    let r = own_alike one (get_or ones k d) w n is
+    (follow_on ones one place k d up at above lt (subst (λ x. access_order (get_or ones k d) x ≡ Less) met less)) in
     subst (IsIdle others) (sym r.2) (idle_own others r.0 r.1))
     so
 
-pub reads_idle : (ones others : List Access) (one : Access) (place to : ℕ) → passes_reads one ≡ true → AreSo (IsPassed one true others) ones place to → AreSo (IsIdle others) ones place to
+pub reads_idle : (ones others : List Access) (one : Access) (place to : ℕ) → passes_reads one ≡ true
+    → AreSo (IsPassed one true others) ones place to → AreSo (IsIdle others) ones place to
 reads_idle ones others one place to reads so =
     so_less (IsPassed one true others) (IsIdle others) ones place to
     (λ k d above lt p. idle_reads others (get_or ones k d) (reads_alike one (get_or ones k d) p.follows reads) p.apart)
@@ -359,7 +389,8 @@ pub both_idle : (ones others : List Access) (one : Access) (place reads writes t
 both_idle ones others one place reads writes to low r w apart also = record {
   there = (let most = apart.there in omega (arith, r, most));
   up = low;
-  each = λ k d above under. idle_apart others (get_or ones k d) (apart.each k d above (omega (arith, r, under))).apart (also.each k d above (omega (arith, w, under))).apart;
+  each = λ k d above under. idle_apart others (get_or ones k d) (apart.each k d above (omega (arith, r, under))).apart
+      (also.each k d above (omega (arith, w, under))).apart;
 }
 
 -- what comes late
@@ -378,7 +409,8 @@ not_sooner_field n k u z v y lt (inr same) = (let is = same.0 in omega (arith, l
 
 late : (one r : Access) (first : Option Conflict) (others : List Access) → comes_late one first ≡ true → Follows one r → IsLate first others r
 late _ _ (Some (conflict.Variable k)) others is (variables w n m le) c h =
-    subst (λ d. Precedes d (conflict.Variable k) → ⊥) (variable_clash w m h.other c h.clash) (λ before. let lt = ltb-true k n is in omega (arith, lt, le, before))
+    subst (λ d. Precedes d (conflict.Variable k) → ⊥) (variable_clash w m h.other c h.clash)
+    (λ before. let lt = ltb-true k n is in omega (arith, lt, le, before))
 late _ _ (Some (conflict.Variable k)) others is (fields w n m u z le) c h =
     let f = field_clash w m z h.other c h.clash in
     subst (λ d. Precedes d (conflict.Variable k) → ⊥) f.1 (λ before. before)
@@ -402,7 +434,9 @@ idle_late : (first : Option Conflict) (others : List Access) (r : Access) → Is
 idle_late None others r idle = idle.apart
 idle_late (Some b) others r idle = λ c h. absurd (idle.apart c h)
 
-pub sooner_passed : (ones others : List Access) (first : Option Conflict) (place mid to : ℕ) → AreSo (IsLate first others) ones place mid → AreSo (IsIdle others) ones mid to → AreSo (IsLate first others) ones place to
+pub sooner_passed : (ones others : List Access) (first : Option Conflict) (place mid to : ℕ)
+    → AreSo (IsLate first others) ones place mid → AreSo (IsIdle others) ones mid to
+    → AreSo (IsLate first others) ones place to
 sooner_passed ones others first place mid to early idle =
     so_then (IsLate first others) ones place mid to early
     (so_less (IsIdle others) (IsLate first others) ones mid to (λ k d low lt. idle_late first others (get_or ones k d)) idle)
@@ -436,24 +470,28 @@ pub least_passed : (ones others : List Access) (least : Option Conflict) (i j : 
     → IsLeastConflict (Clashes (take i ones) others) least → IsLeastConflict (Clashes (take j ones) others) least
 unfolding IsLeastConflict
 least_passed ones others None i j so none = λ c h.
-    ⊎_elim (λ at. none c (record { one = h.one; there = at; clash = h.clash })) (λ late. late c h.clash) (taken_or (IsLate None others) ones i j h.one so h.there)
+    ⊎_elim (λ at. none c (record { one = h.one; there = at; clash = h.clash })) (λ late. late c h.clash)
+    (taken_or (IsLate None others) ones i j h.one so h.there)
 least_passed ones others (Some b) i j so least = (
   record { one = least.0.one; there = taken_more ones i j least.0.one so.up least.0.there; clash = least.0.clash },
-  λ c h. ⊎_elim (λ at. least.1 c (record { one = h.one; there = at; clash = h.clash })) (λ late. late c h.clash) (taken_or (IsLate (Some b) others) ones i j h.one so h.there),
+  λ c h. ⊎_elim (λ at. least.1 c (record { one = h.one; there = at; clash = h.clash })) (λ late. late c h.clash)
+      (taken_or (IsLate (Some b) others) ones i j h.one so h.there),
 )
 
 pub tests_passed : (ones others : List Access) (i j : ℕ) (old now : List Test) → AreSo (IsIdle others) ones i j
     → AddsTests (Asked (take i ones) others) old now → AddsTests (Asked (take j ones) others) old now
 tests_passed ones others i j old now so adds = record {
   kept = adds.kept;
-  added = λ t h. ⊎_elim (λ at. adds.added t (record { one = h.one; there = at; asks = h.asks })) (λ idle. absurd (idle.silent t h.asks)) (taken_or (IsIdle others) ones i j h.one so h.there);
+  added = λ t h. ⊎_elim (λ at. adds.added t (record { one = h.one; there = at; asks = h.asks }))
+      (λ idle. absurd (idle.silent t h.asks)) (taken_or (IsIdle others) ones i j h.one so h.there);
   each = λ t c. ⊎_elim inl (λ h. inr (record { one = h.one; there = taken_more ones i j h.one so.up h.there; asks = h.asks })) (adds.each t c);
 }
 
 pub hold_passed : (a b : JobStart) (ones others : List Access) (i j : ℕ) → AreSo (IsIdle others) ones i j
     → AllHold (Asked (take i ones) others) a b → AllHold (Asked (take j ones) others) a b
 hold_passed a b ones others i j so all = record {
-  each = λ t h. ⊎_elim (λ at. all.each t (record { one = h.one; there = at; asks = h.asks })) (λ idle. absurd (idle.silent t h.asks)) (taken_or (IsIdle others) ones i j h.one so h.there);
+  each = λ t h. ⊎_elim (λ at. all.each t (record { one = h.one; there = at; asks = h.asks }))
+      (λ idle. absurd (idle.silent t h.asks)) (taken_or (IsIdle others) ones i j h.one so h.there);
 }
 
 -- the next one, and those that are passed behind it
@@ -466,7 +504,8 @@ least_more ones others place next one least found result at before here is so =
     (of_more ones others place one least found result (slice_get_within ones place one at) before
     (subst (λ x. IsLeastConflict (ClashesWith x others) found) (sym (get_or_from_slice_get ones place one one at)) here) is)
 
-pub least_end : (ones others : List Access) (place : ℕ) (least : Option Conflict) → length ones ≤ place → IsLeastConflict (Clashes (take place ones) others) least → IsLeastConflict (Clashes ones others) least
+pub least_end : (ones others : List Access) (place : ℕ) (least : Option Conflict) → length ones ≤ place
+    → IsLeastConflict (Clashes (take place ones) others) least → IsLeastConflict (Clashes ones others) least
 least_end ones others place least past h = subst (λ l. IsLeastConflict (Clashes l others) least) (take_all place ones past) h
 
 pub tests_more : (ones others : List Access) (place next : ℕ) (one : Access) (old now new : List Test) → slice_get ones place ≡ Some one

@@ -1,5 +1,7 @@
 -- The tests of two summaries, one after the other.
-use Rattle.std.proofs.Common.{◌≡◌, ◌⊎◌, inl, inr, ⊎_elim, ℕ, ◌+◌, ◌<◌, ◌≤◌, Bool, true, false, List, [], ◌∷◌, ◌++◌, length, take, get_or, Option, Some, None, refl, sym, ap, ◌∙◌, subst}
+use Rattle.std.proofs.Common.{◌≡◌, ◌⊎◌, inl, inr, ⊎_elim, ℕ, ◌+◌, ◌<◌, ◌≤◌, Bool, true, false, List}
+use Rattle.std.proofs.Common.{[], ◌∷◌, ◌++◌, length, take, get_or, Option, Some, None, refl, sym}
+use Rattle.std.proofs.Common.{ap, ◌∙◌, subst}
 use Rattle.std.specs.Prelude.{◌↔◌, if◌then◌else◌}
 use Rattle.std.specs.declared.cmp.Ordering.{Ordering}
 use Rattle.std.specs.declared.cmp.Ordering.TheVariants.{Less, Equal, Greater}
@@ -8,10 +10,12 @@ use Rattle.std.specs.Ordering.{nat_cmp, ordering_then, is_eq, eq_by_cmp}
 use Rattle.std.specs.List.{Contains, dedup}
 use Rattle.std.specs.List.Sorted.{IsPermutation, IsSorted, IsStrictlySortedBy}
 use Rattle.std.proofs.lemmas.Cmp.{eq_by_cmp_equiv}
-use Rattle.std.proofs.lemmas.List.Kept.{Contains-dedup, Contains-from_dedup, IsStrictlySortedBy-dedup}
+use Rattle.std.proofs.lemmas.List.Kept.{Contains-dedup, Contains-from_dedup}
+use Rattle.std.proofs.lemmas.List.Kept.{IsStrictlySortedBy-dedup}
 use Rattle.std.proofs.lemmas.List.Sorted.{Contains-permutation, IsPermutation-sym}
 use Rattle.std.proofs.lemmas.List.{take_all, take_more}
-use Rattle.std.proofs.lemmas.List.Elements.{Contains-append_left, Contains-push, Contains-push_cases}
+use Rattle.std.proofs.lemmas.List.Elements.{Contains-append_left, Contains-push}
+use Rattle.std.proofs.lemmas.List.Elements.{Contains-push_cases}
 use Rattle.std.proofs.lemmas.Option.{none-some, same_Some}
 use Rattle.std.proofs.lemmas.Bool.{both_ways}
 use Rattle.plex_num.proofs.Members.{none_in}
@@ -26,15 +30,18 @@ use Rattle.pair_tests.specs.declared.pair.Test.TheVariants as test
 use Rattle.pair_tests.specs.contracts.pair.TestOrd.TheImpl.Laws.{total-law}
 use Rattle.pair_tests.specs.Orders.{test_order}
 use Rattle.pair_tests.specs.Clashes.{share}
-use Rattle.pair_tests.specs.Asked.{selector_test, asked_of, asks as ask, release_test, AskedWith, Asked, AskedSeizing, AskedRelease, AddsTests}
+use Rattle.pair_tests.specs.Asked.{selector_test, asked_of, asks as ask, release_test, AskedWith}
+use Rattle.pair_tests.specs.Asked.{Asked, AskedSeizing, AskedRelease, AddsTests}
 use Rattle.pair_tests.specs.Nearby.{passes_reads, AreNear}
-use Rattle.pair_tests.specs.Pairs.{ShareField, IsTest, two_values, first_value, later_value, in_forlopp, holds_none}
+use Rattle.pair_tests.specs.Pairs.{ShareField, IsTest, two_values, first_value, later_value}
+use Rattle.pair_tests.specs.Pairs.{in_forlopp, holds_none}
 use Rattle.pair_tests.proofs.Conflicting.{shared, sharing}
 use Rattle.pair_tests.proofs.Nearing.{asks, asked_near, asked_writes}
 
 -- the sets of tests
 
-pub with_pushed : (one : Access) (done : List Access) (new : Access) (t : Test) → AskedWith one (done ++ new ∷ []) t → AskedWith one done t ⊎ (asked_of one new ≡ Some t)
+pub with_pushed : (one : Access) (done : List Access) (new : Access) (t : Test) → AskedWith one (done ++ new ∷ []) t
+    → AskedWith one done t ⊎ (asked_of one new ≡ Some t)
 with_pushed one done new t h =
     ⊎_elim
     (λ at. inl (record { other = h.other; there = at; asks = h.asks }))
@@ -92,7 +99,8 @@ none_asked_with one others t nothing h = asked_none one h.other nothing h.asks
     asked_none (Field w n u) b nothing e = cc
     asked_none _ b nothing e = none-some t e
 
-pub writes_asked : (one : Access) (all writes : List Access) → passes_reads one ≡ true → AreNear one true all writes → (t : Test) → AskedWith one all t → AskedWith one writes t
+pub writes_asked : (one : Access) (all writes : List Access) → passes_reads one ≡ true → AreNear one true all writes
+    → (t : Test) → AskedWith one all t → AskedWith one writes t
 writes_asked one all writes reads w t h = record { other = h.other; there = w.near h.other h.there (asked_writes one h.other t reads h.asks); asks = h.asks }
 
 pub asked_all : (one : Access) (v : Bool) (all some : List Access) → AreNear one v all some → (t : Test) → AskedWith one some t → AskedWith one all t
@@ -138,7 +146,8 @@ with_more one others i d o old now new lt same before one_more =
     (with_done one (take i others) (get_or others i d)) (with_new one (take i others) (get_or others i d)) (with_pushed one (take i others) (get_or others i d))
     old now new before (subst (λ p. AddsTests (λ t. p ≡ Some t) now new) same one_more))
 
-pub with_end : (one : Access) (others : List Access) (i : ℕ) (old new : List Test) → length others ≤ i → AddsTests (AskedWith one (take i others)) old new → AddsTests (AskedWith one others) old new
+pub with_end : (one : Access) (others : List Access) (i : ℕ) (old new : List Test) → length others ≤ i
+    → AddsTests (AskedWith one (take i others)) old new → AddsTests (AskedWith one others) old new
 with_end one others i old new past h = subst (λ l. AddsTests (AskedWith one l) old new) (take_all i others past) h
 
 pub with_none : (one : Access) (all : List Access) (old : List Test) → ask one ≡ false → AddsTests (AskedWith one all) old old
@@ -174,7 +183,8 @@ all_more ones others i d old now new lt before one_more =
     (all_done (take i ones) others (get_or ones i d)) (all_new (take i ones) others (get_or ones i d)) (all_pushed (take i ones) others (get_or ones i d))
     old now new before one_more)
 
-pub all_end : (ones others : List Access) (i : ℕ) (old new : List Test) → length ones ≤ i → AddsTests (Asked (take i ones) others) old new → AddsTests (Asked ones others) old new
+pub all_end : (ones others : List Access) (i : ℕ) (old new : List Test) → length ones ≤ i
+    → AddsTests (Asked (take i ones) others) old new → AddsTests (Asked ones others) old new
 all_end ones others i old new past h = subst (λ l. AddsTests (Asked l others) old new) (take_all i ones past) h
 
 pub seizing_begin : (old : List Test) → AddsTests (AskedSeizing []) old old
@@ -189,13 +199,15 @@ seizing_more others i d o old now new lt same before one_more =
     (seizing_done (take i others) (get_or others i d)) (seizing_new (take i others) (get_or others i d)) (seizing_pushed (take i others) (get_or others i d))
     old now new before (subst (λ p. AddsTests (λ t. p ≡ Some t) now new) same one_more))
 
-pub seizing_end : (others : List Access) (i : ℕ) (old new : List Test) → length others ≤ i → AddsTests (AskedSeizing (take i others)) old new → AddsTests (AskedSeizing others) old new
+pub seizing_end : (others : List Access) (i : ℕ) (old new : List Test) → length others ≤ i
+    → AddsTests (AskedSeizing (take i others)) old new → AddsTests (AskedSeizing others) old new
 seizing_end others i old new past h = subst (λ l. AddsTests (AskedSeizing l) old new) (take_all i others past) h
 
 pub no_release : (fault : Bool) (others : List Access) (old : List Test) → fault ≡ false → AddsTests (AskedRelease fault others) old old
 no_release fault others old e = adds_nothing (AskedRelease fault others) old (λ t h. both_ways fault e h.fault_may)
 
-pub release : (fault : Bool) (others : List Access) (old now new : List Test) → fault ≡ true → now ≡ old ++ test.InForlopp ∷ [] → AddsTests (AskedSeizing others) now new
+pub release : (fault : Bool) (others : List Access) (old now new : List Test) → fault ≡ true
+    → now ≡ old ++ test.InForlopp ∷ [] → AddsTests (AskedSeizing others) now new
     → AddsTests (AskedRelease fault others) old new
 release fault others old now new e is more =
     adds_joined (λ t. Some test.InForlopp ≡ Some t) (AskedSeizing others) (AskedRelease fault others)
@@ -230,7 +242,8 @@ tests_equal _ _ e = cc
 tests_total : IsTotalOrder test_order
 tests_total = total-law
 
-by_order : (E : Test → Test → Bool) → ((x y : Test) → E x y ≡ eq_by_cmp test_order x y) → (sorted kept : List Test) → kept ≡ dedup E sorted → kept ≡ dedup (eq_by_cmp test_order) sorted
+by_order : (E : Test → Test → Bool) → ((x y : Test) → E x y ≡ eq_by_cmp test_order x y) → (sorted kept : List Test)
+    → kept ≡ dedup E sorted → kept ≡ dedup (eq_by_cmp test_order) sorted
 by_order E ties sorted kept is = (let same : E ≡ eq_by_cmp test_order = λ i x y. ties x y i in subst (λ F. kept ≡ dedup F sorted) same is)
 
 pub ordered_same : (E : Test → Test → Bool) → ((x y : Test) → E x y ≡ eq_by_cmp test_order x y) → (tests items sorted kept made : List Test)
@@ -252,7 +265,8 @@ ordered_rises E ties sorted kept made up once is =
 -- they are the tests of two summaries
 
 module _ (first later : Summary) where
-  field_test : (w v : Bool) (n m : ℕ) (u z : Value) (t : Test) → Contains first.accesses (Field w n u) → Contains later.accesses (Field v m z) → share n m w v ≡ true → selector_test u z ≡ Some t → IsTest first later t
+  field_test : (w v : Bool) (n m : ℕ) (u z : Value) (t : Test) → Contains first.accesses (Field w n u)
+      → Contains later.accesses (Field v m z) → share n m w v ≡ true → selector_test u z ≡ Some t → IsTest first later t
   field_test w v n m u z t at there s e = selected u z t field e
     where
       field : ShareField first later n u z
@@ -295,7 +309,8 @@ module _ (first later : Summary) where
   choose true o t e f = f
   choose false o t e f = cc
 
-  of_field : (n : ℕ) (u z : Value) (t : Test) → ShareField first later n u z → selector_test u z ≡ Some t → Asked first.accesses later.accesses t ⊎ AskedRelease first.fault later.accesses t
+  of_field : (n : ℕ) (u z : Value) (t : Test) → ShareField first later n u z → selector_test u z ≡ Some t
+      → Asked first.accesses later.accesses t ⊎ AskedRelease first.fault later.accesses t
   of_field n u z t s e =
       inl (record {
         one = Field s.first_writes n u;
@@ -320,5 +335,7 @@ pub exact : (first later : Summary) (ones others : List Access) (empty now new m
 exact first later ones others empty now new made same_ones same_others none fields faults same t =
     let f = subst (λ l. AddsTests (Asked l later.accesses) empty now) same_ones (subst (λ l. AddsTests (Asked ones l) empty now) same_others fields) in
     let r = subst (λ l. AddsTests (AskedRelease first.fault l) now new) same_others faults in
-    let all = adds_joined (Asked first.accesses later.accesses) (AskedRelease first.fault later.accesses) (IsTest first later) (of_asked first later) (of_release first later) (test_cases first later) empty now new f r in
+    let all = adds_joined (Asked first.accesses later.accesses) (AskedRelease first.fault later.accesses)
+    (IsTest first later) (of_asked first later) (of_release first later) (test_cases first later) empty now new f r
+    in
     (λ c. ⊎_elim (λ o. absurd (none_in t (subst (λ l. Contains l t) none o))) (λ h. h) (all.each t ((same t).0 c)), λ h. (same t).1 (all.added t h))

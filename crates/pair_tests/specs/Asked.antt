@@ -23,7 +23,8 @@ selector_test Any v = None
 
 -- that of an access of the first and one of the later
 abbrev pub asked_of : Access → Access → Option Test
-asked_of (access.Field w n u) (access.Field v m z) = if share n m w v then selector_test u z else None
+asked_of (access.Field w n u) (access.Field v m z) =
+    if share n m w v then selector_test u z else None
 asked_of _ _ = None
 
 -- whether an access of the first asks for tests at all

@@ -1,5 +1,6 @@
 -- Which accesses of two jobs conflict, and the first of several conflicts.
-use Rattle.std.specs.Prelude.{◌≡◌, ◌⊎◌, ℕ, ◌==◌, nat_lt, Bool, true, false, ◌&&◌, ◌||◌, List, Option, Some, None, if◌then◌else◌}
+use Rattle.std.specs.Prelude.{◌≡◌, ◌⊎◌, ℕ, ◌==◌, nat_lt, Bool, true, false, ◌&&◌, ◌||◌, List}
+use Rattle.std.specs.Prelude.{Option, Some, None, if◌then◌else◌}
 use Rattle.std.specs.List.{Contains}
 use Rattle.plex_num.specs.declared.level.Level.{Level}
 use Rattle.flow_points.specs.declared.fact.Value.{Value}
@@ -31,7 +32,8 @@ only_if holds c = if holds then Some c else None
 -- the conflict of an access of the first with one of the later, if they conflict
 abbrev pub clash_of : Access → Access → Option Conflict
 clash_of (access.Variable w n) (access.Variable v m) = only_if (share n m w v) (conflict.Variable n)
-clash_of (access.Field w n u) (access.Field v m z) = only_if (share n m w v && meet u z) (conflict.Field n u z)
+clash_of (access.Field w n u) (access.Field v m z) =
+    only_if (share n m w v && meet u z) (conflict.Field n u z)
 clash_of (access.Seizes f) (access.Seizes g) = only_if (f == g) (conflict.Seizing f)
 clash_of (access.Seizes f) (access.Frees g) = only_if (f == g) (conflict.Seizing f)
 clash_of (access.Frees f) (access.Seizes g) = only_if (f == g) (conflict.Seizing f)
@@ -39,7 +41,8 @@ clash_of _ _ = None
 
 -- the conflict of a level to which the first may send with the later's own level
 abbrev pub above_of : Level → Level → Option Conflict
-above_of level later = only_if (nat_lt (level_number level) (level_number later)) (conflict.Above level)
+above_of level later =
+    only_if (nat_lt (level_number level) (level_number later)) (conflict.Above level)
 
 -- a conflict of the access with one of these
 pub record ClashesWith (one : Access) (others : List Access) (c : Conflict) : Type 0 where
@@ -68,4 +71,5 @@ IsLeastConflict P (Some c) = P c × ((d : Conflict) → P d → Precedes d c →
 abbrev pub IsSooner : Option Conflict → Option Conflict → Option Conflict → Type 0
 IsSooner None other result = result ≡ other
 IsSooner (Some c) None result = result ≡ Some c
-IsSooner (Some c) (Some d) result = ((result ≡ Some d) × Precedes d c) ⊎ ((result ≡ Some c) × (Precedes d c → ⊥))
+IsSooner (Some c) (Some d) result =
+    ((result ≡ Some d) × Precedes d c) ⊎ ((result ≡ Some c) × (Precedes d c → ⊥))

@@ -1,10 +1,13 @@
--- Accesses of the first that need no look: none of the later is near them, or their conflicts come too late.
-use Rattle.std.specs.Prelude.{ℕ, ◌<◌, ◌≤◌, nat_lt, Bool, true, false, List, length, get_or, Option, Some, None}
+-- Accesses of the first that need no look: none of the later is near them, or their conflicts come
+-- too late.
+use Rattle.std.specs.Prelude.{ℕ, ◌<◌, ◌≤◌, nat_lt, Bool, true, false, List, length, get_or, Option}
+use Rattle.std.specs.Prelude.{Some, None}
 use Rattle.std.specs.List.{Contains}
 use Rattle.flow_points.specs.declared.fact.Value.{Value}
 use Rattle.flow_points.specs.declared.fact.Value.TheVariants.{Arg}
 use Rattle.entry_summary.specs.declared.summary.Access.{Access}
-use Rattle.entry_summary.specs.declared.summary.Access.TheVariants.{Variable, Field, Own, Seizes, Frees}
+use Rattle.entry_summary.specs.declared.summary.Access.TheVariants.{Variable, Field, Own, Seizes}
+use Rattle.entry_summary.specs.declared.summary.Access.TheVariants.{Frees}
 use Rattle.pair_tests.specs.declared.pair.Conflict.{Conflict}
 use Rattle.pair_tests.specs.declared.pair.Conflict.TheVariants as conflict
 use Rattle.pair_tests.specs.declared.pair.Test.{Test}
@@ -13,8 +16,8 @@ use Rattle.pair_tests.specs.Clashes.{ClashesWith}
 use Rattle.pair_tests.specs.Nearby.{IsNear}
 use Rattle.pair_tests.specs.Orders.{Precedes}
 
--- the first access that there may be behind those of this kind: reads or writes of variables or of fields, or own records; for a
--- file itself
+-- the first access that there may be behind those of this kind: reads or writes of variables or of
+-- fields, or own records; for a file itself
 abbrev pub behind : Access → Access
 behind (Variable false n) = Variable true 0
 behind (Variable true n) = Field false 0 (Arg 0)
@@ -24,8 +27,8 @@ behind (Own w n) = Seizes 0
 behind (Seizes f) = Seizes f
 behind (Frees f) = Frees f
 
--- the first access of the kind of this one that is near the other one, if that reads, or writes, as is asked; else the one behind
--- them; for one of own records or of a file itself
+-- the first access of the kind of this one that is near the other one, if that reads, or writes, as
+-- is asked; else the one behind them; for one of own records or of a file itself
 abbrev pub next_met : Access → Bool → Option Access → Access
 next_met (Variable w n) false (Some (Variable false m)) = Variable w m
 next_met (Variable w n) true (Some (Variable true m)) = Variable w m
@@ -44,7 +47,8 @@ pub data Follows : Access → Access → Type 0 where
 abbrev pub IsApart : Bool → List Access → Access → Type 0
 IsApart v others one = (b : Access) → Contains others b → IsNear one v b → ⊥
 
--- an access of the kind of this one, its number not below, that none of these is near which writes, or does not
+-- an access of the kind of this one, its number not below, that none of these is near which writes,
+-- or does not
 pub record IsPassed (one : Access) (v : Bool) (others : List Access) (r : Access) : Type 0 where
   pub follows : Follows one r
   pub apart : IsApart v others r

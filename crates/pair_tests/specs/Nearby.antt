@@ -1,5 +1,5 @@
--- The accesses that are of one number with an access, in a list in order: those that read it, and those that write it. For files:
--- those that seize it, and those that free it.
+-- The accesses that are of one number with an access, in a list in order: those that read it, and
+-- those that write it. For files: those that seize it, and those that free it.
 use Rattle.std.specs.Prelude.{◌≡◌, ℕ, ◌≤◌, Bool, true, false, not, List, length}
 use Rattle.std.specs.Ordering.{is_le, is_lt}
 use Rattle.std.specs.List.{AllWithin, Contains}
@@ -7,7 +7,8 @@ use Rattle.std.specs.List.Sorted.{IsPartitionPoint}
 use Rattle.flow_points.specs.declared.fact.Value.{Value}
 use Rattle.flow_points.specs.declared.fact.Value.TheVariants.{Arg, Any}
 use Rattle.entry_summary.specs.declared.summary.Access.{Access}
-use Rattle.entry_summary.specs.declared.summary.Access.TheVariants.{Variable, Field, Own, Seizes, Frees}
+use Rattle.entry_summary.specs.declared.summary.Access.TheVariants.{Variable, Field, Own, Seizes}
+use Rattle.entry_summary.specs.declared.summary.Access.TheVariants.{Frees}
 use Rattle.entry_summary.specs.Orders.{access_order}
 use Rattle.pair_tests.specs.declared.near.Bound.{Bound}
 use Rattle.pair_tests.specs.declared.near.Bound.TheVariants.{Below, UpTo}
@@ -24,7 +25,8 @@ near_access (Own w n) v z = Own v n
 near_access (Seizes f) v z = file_access f v
 near_access (Frees f) v z = file_access f v
 
--- the first and the last access of the number that may be: no selector is before the first value, and none behind any
+-- the first and the last access of the number that may be: no selector is before the first value,
+-- and none behind any
 abbrev pub lowest : Access → Bool → Access
 lowest one v = near_access one v (Arg 0)
 
@@ -44,7 +46,8 @@ pub record AreNear (one : Access) (write : Bool) (all some : List Access) : Type
   pub each : (b : Access) → Contains some b → Contains all b
   pub near : (b : Access) → Contains all b → IsNear one write b → Contains some b
 
--- it reads, or is of own records: it neither conflicts with one that reads nor asks for a test with it
+-- it reads, or is of own records: it neither conflicts with one that reads nor asks for a test with
+-- it
 abbrev pub passes_reads : Access → Bool
 passes_reads (Variable w n) = not w
 passes_reads (Field w n u) = not w
@@ -69,4 +72,5 @@ pub record ArePast (bound : Bound) (accesses : List Access) (place : ℕ) : Type
 -- so many are within it, which are the first ones
 pub record AreCounted (bound : Bound) (accesses : List Access) (count : ℕ) : Type 0 where
   pub there : count ≤ length accesses
-  pub parts : IsPartitionPoint (λ a. within bound a ≡ true) (λ a. within bound a ≡ false) accesses count
+  pub parts : IsPartitionPoint (λ a. within bound a ≡ true) (λ a. within bound a ≡ false) accesses
+      count

@@ -17,8 +17,8 @@ test_order = tests.ghosts.cmp
 abbrev pub SelectorsPrecede : Value → Value → Value → Value → Type 0
 SelectorsPrecede u v w z = (value_order u w ≡ Less) ⊎ ((u ≡ w) × (value_order v z ≡ Less))
 
--- one conflict comes before another: variables, fields, files, levels; variables, fields and files by their numbers, a field by
--- the first's selector and then by the later's; levels from A on
+-- one conflict comes before another: variables, fields, files, levels; variables, fields and files
+-- by their numbers, a field by the first's selector and then by the later's; levels from A on
 abbrev pub Precedes : Conflict → Conflict → Type 0
 Precedes (Variable n) (Variable m) = n < m
 Precedes (Variable n) _ = Unit {0}

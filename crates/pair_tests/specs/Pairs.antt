@@ -1,5 +1,5 @@
--- Whether jobs of two entries may run at once, the first before the later one in the single run: the conflicts of their summaries,
--- the verdict, and the tests of two jobs.
+-- Whether jobs of two entries may run at once, the first before the later one in the single run:
+-- the conflicts of their summaries, the verdict, and the tests of two jobs.
 use Rattle.std.specs.Prelude.{◌≡◌, ◌≢◌, ℕ, ◌<◌, Bool, true, ◌||◌, slice_index}
 use Rattle.std.specs.List.{Contains}
 use Rattle.plex_num.specs.declared.level.Level.{Level}
@@ -43,16 +43,22 @@ Meet u v = ⊥
 
 -- one seizes records of the file, and the other one seizes or frees records of it
 pub data ShareFile (first later : Summary) (file : ℕ) : Type 0 where
-  both_seize : Contains first.accesses (access.Seizes file) → Contains later.accesses (access.Seizes file) → ShareFile first later file
-  later_frees : Contains first.accesses (access.Seizes file) → Contains later.accesses (access.Frees file) → ShareFile first later file
-  first_frees : Contains first.accesses (access.Frees file) → Contains later.accesses (access.Seizes file) → ShareFile first later file
+  both_seize : Contains first.accesses (access.Seizes file)
+      → Contains later.accesses (access.Seizes file) → ShareFile first later file
+  later_frees : Contains first.accesses (access.Seizes file)
+      → Contains later.accesses (access.Frees file) → ShareFile first later file
+  first_frees : Contains first.accesses (access.Frees file)
+      → Contains later.accesses (access.Seizes file) → ShareFile first later file
 
 -- why jobs of the two never run at once
 pub data IsConflict (first later : Summary) : Conflict → Type 0 where
-  on_variable : (number : ℕ) → ShareVariable first later number → IsConflict first later (conflict.Variable number)
-  on_field : (number : ℕ) (u v : Value) → ShareField first later number u v → Meet u v → IsConflict first later (conflict.Field number u v)
+  on_variable : (number : ℕ) → ShareVariable first later number
+      → IsConflict first later (conflict.Variable number)
+  on_field : (number : ℕ) (u v : Value) → ShareField first later number u v → Meet u v
+      → IsConflict first later (conflict.Field number u v)
   on_file : (file : ℕ) → ShareFile first later file → IsConflict first later (conflict.Seizing file)
-  on_level : (level : Level) → Contains first.levels level → level_number level < level_number later.level
+  on_level : (level : Level) → Contains first.levels level
+      → level_number level < level_number later.level
       → IsConflict first later (conflict.Above level)
 
 abbrev pub HasNoConflict : Summary → Summary → Type 0
@@ -70,11 +76,15 @@ IsVerdict first later Tests = HasNoConflict first later
 
 -- what must hold of two jobs
 pub data IsTest (first later : Summary) : Test → Type 0 where
-  two_values : (number a b : ℕ) → ShareField first later number (Arg a) (Arg b) → IsTest first later (test.Differ a b)
-  first_value : (number a c : ℕ) → ShareField first later number (Arg a) (Const c) → IsTest first later (test.FirstNot a c)
-  later_value : (number b c : ℕ) → ShareField first later number (Const c) (Arg b) → IsTest first later (test.LaterNot b c)
+  two_values : (number a b : ℕ) → ShareField first later number (Arg a) (Arg b)
+      → IsTest first later (test.Differ a b)
+  first_value : (number a c : ℕ) → ShareField first later number (Arg a) (Const c)
+      → IsTest first later (test.FirstNot a c)
+  later_value : (number b c : ℕ) → ShareField first later number (Const c) (Arg b)
+      → IsTest first later (test.LaterNot b c)
   in_forlopp : first.fault ≡ true → IsTest first later test.InForlopp
-  holds_none : (file : ℕ) → first.fault ≡ true → Contains later.accesses (access.Seizes file) → IsTest first later (test.HoldsNo file)
+  holds_none : (file : ℕ) → first.fault ≡ true → Contains later.accesses (access.Seizes file)
+      → IsTest first later (test.HoldsNo file)
 
 -- the test holds of these two jobs
 abbrev pub TestHolds : JobStart → JobStart → Test → Type 0

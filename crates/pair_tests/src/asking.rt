@@ -5,7 +5,10 @@ ghost use Rattle.std.specs.List.Sorted.{IsStrictlySortedBy};
 ghost use Rattle.entry_summary.specs.declared.summary.Access.TheVariants as access;
 ghost use Rattle.entry_summary.specs.Orders.{access_order};
 ghost use Rattle.pair_tests.specs.declared.pair.Test.{Test};
-ghost use Rattle.pair_tests.specs.Asked.{asked_of, asks as asks_of, release_test as release_test_of, selector_test as selector_test_of, AddsTests, Asked, AskedRelease, AskedSeizing, AskedWith};
+ghost use Rattle.pair_tests.specs.Asked.{asked_of, asks as asks_of};
+ghost use Rattle.pair_tests.specs.Asked.{release_test as release_test_of};
+ghost use Rattle.pair_tests.specs.Asked.{selector_test as selector_test_of, AddsTests, Asked};
+ghost use Rattle.pair_tests.specs.Asked.{AskedRelease, AskedSeizing, AskedWith};
 ghost use Rattle.pair_tests.specs.Orders.{test_order};
 ghost use Rattle.pair_tests.specs.Pairs.{IsTest};
 
@@ -133,8 +136,8 @@ fn push_with(
     Ok(())
 }
 
-/// Appends the tests of accesses of the first with those of the later. Lists in order are gone through once, and what can ask for none is
-/// passed.
+/// Appends the tests of accesses of the first with those of the later. Lists in order are gone
+/// through once, and what can ask for none is passed.
 #[tactic(auto, using(crate::proofs::Tested::all_begin, crate::proofs::Tested::all_more, crate::proofs::Tested::all_end))]
 fn push_fields(ones: &[Access], others: &[Access], tests: &mut Seq<Test>) -> Result<(), Memory>
     requires ones { IsStrictlySortedBy access_order ones.now }
@@ -187,7 +190,8 @@ fn in_order(tests: Seq<Test>) -> Result<Seq<Test>, Memory>
     Ok(Seq::from_vec(items))
 }
 
-/// What must hold of two jobs that run at once, the first before the later one in the single run: in order, each test once.
+/// What must hold of two jobs that run at once, the first before the later one in the single run:
+/// in order, each test once.
 pub fn tests_of(alloc: Global, first: &Summary, later: &Summary) -> Result<Seq<Test>, Memory>
     ensures exact { IfOk result
         (λ tests. (t : Test) → Contains tests t ↔ IsTest first.now later.now t) }

@@ -3,7 +3,9 @@ ghost use Rattle.std.specs.Prelude.{◌≡◌};
 ghost use Rattle.entry_summary.specs.declared.summary.Access.TheVariants as access;
 ghost use Rattle.std.specs.List.Sorted.{IsStrictlySortedBy};
 ghost use Rattle.entry_summary.specs.Orders.{access_order};
-ghost use Rattle.pair_tests.specs.Clashes.{above_of, clash_of, only_if as only_if_of, meet as meet_of, share as share_of, Clashes, ClashesAbove, ClashesWith, IsLeastConflict};
+ghost use Rattle.pair_tests.specs.Clashes.{above_of, clash_of, only_if as only_if_of};
+ghost use Rattle.pair_tests.specs.Clashes.{meet as meet_of, share as share_of, Clashes};
+ghost use Rattle.pair_tests.specs.Clashes.{ClashesAbove, ClashesWith, IsLeastConflict};
 
 use crate::near::{Hints, at, near, passes_reads};
 use crate::pair::Conflict;
@@ -142,8 +144,8 @@ fn first_with(one: Access, others: &[Access], hints: &mut Hints) -> Option<Confl
     sooner(reads, writes)
 }
 
-/// The first conflict of accesses of the first with those of the later. Lists in order are gone through once, and what can have no
-/// conflict, or none before one that was found, is passed.
+/// The first conflict of accesses of the first with those of the later. Lists in order are gone
+/// through once, and what can have no conflict, or none before one that was found, is passed.
 #[tactic(auto, using(crate::proofs::Leasts::of_none, crate::proofs::Leasts::of_more))]
 pub fn first_clash(ones: &[Access], others: &[Access]) -> Option<Conflict>
     requires ones { IsStrictlySortedBy access_order ones.now }

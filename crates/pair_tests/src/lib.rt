@@ -1,7 +1,7 @@
 // Whether jobs of two entries may run at once, told from the summaries of the entries.
 //
-// What goes in: two summaries, of the job that comes first in the single run and of the later one. What comes out: never, with the
-// first conflict, or the tests that two jobs must pass.
+// What goes in: two summaries, of the job that comes first in the single run and of the later one.
+// What comes out: never, with the first conflict, or the tests that two jobs must pass.
 #![tactic(auto)]
 
 mod asking;

@@ -1,10 +1,14 @@
 // The accesses of one number in a list in order.
-ghost use Rattle.std.specs.Prelude.{◌≡◌, ◌+◌, ◌<◌, ◌≤◌, IfSome, IsTrue, Some, length, slice_get, take, drop};
+ghost use Rattle.std.specs.Prelude.{◌≡◌, ◌+◌, ◌<◌, ◌≤◌, IfSome, IsTrue, Some, length, slice_get};
+ghost use Rattle.std.specs.Prelude.{take, drop};
 ghost use Rattle.std.specs.Bool.{MatchBool};
 ghost use Rattle.std.specs.List.Sorted.{IsStrictlySortedBy};
 ghost use Rattle.entry_summary.specs.declared.summary.Access.{Access};
 ghost use Rattle.entry_summary.specs.Orders.{access_order};
-ghost use Rattle.pair_tests.specs.Nearby.{file_access as file_access_of, highest as highest_of, lowest as lowest_of, near_access as near_access_of, passes_reads as passes_reads_of, within, AreCounted, AreNear, ArePast, AreWithin};
+ghost use Rattle.pair_tests.specs.Nearby.{file_access as file_access_of, highest as highest_of};
+ghost use Rattle.pair_tests.specs.Nearby.{lowest as lowest_of, near_access as near_access_of};
+ghost use Rattle.pair_tests.specs.Nearby.{passes_reads as passes_reads_of, within, AreCounted};
+ghost use Rattle.pair_tests.specs.Nearby.{AreNear, ArePast, AreWithin};
 
 use entry_summary::Access;
 use flow_points::Value;
@@ -20,7 +24,8 @@ fn file_access(file: u32, frees: bool) -> Access
     }
 }
 
-/// The access of the number of this one that writes, or that does not; of a field with this selector.
+/// The access of the number of this one that writes, or that does not; of a field with this
+/// selector.
 pub fn near_access(one: Access, write: bool, selector: Value) -> Access
     ensures { result ≡ near_access_of one write selector }
 {
@@ -77,8 +82,8 @@ fn is_within(bound: Bound, access: Access) -> bool
 /// How many places are tried before the whole list is searched.
 const TRIES: usize = 4;
 
-/// How many accesses are within a bound, which are the first ones. `hint` is where their end is looked for first: a list that is
-/// asked for one number after the other is gone through once.
+/// How many accesses are within a bound, which are the first ones. `hint` is where their end is
+/// looked for first: a list that is asked for one number after the other is gone through once.
 pub(crate) fn count_within(accesses: &[Access], bound: Bound, hint: usize) -> usize
     requires { IsStrictlySortedBy access_order accesses.now }
     ensures { AreCounted bound accesses.now result }
@@ -176,7 +181,8 @@ fn part(accesses: &[Access], from: usize, to: usize) -> &[Access]
     &[]
 }
 
-/// Where the accesses of a number were found last in a list in order: those that read, and those that write.
+/// Where the accesses of a number were found last in a list in order: those that read, and those
+/// that write.
 #[derive(Clone, Copy)]
 pub struct Hints {
     pub reads: usize,
@@ -193,8 +199,8 @@ impl Hints {
     }
 }
 
-/// Those accesses of the number of this one that write, or that do not; for a file those that free it, or that seize it. `hint` is
-/// where they are looked for first, and then where they were found.
+/// Those accesses of the number of this one that write, or that do not; for a file those that free
+/// it, or that seize it. `hint` is where they are looked for first, and then where they were found.
 #[tactic(auto, using(crate::proofs::Nearing::near_part))]
 pub fn near<'a>(accesses: &'a [Access], one: Access, write: bool, hint: &mut usize) -> &'a [Access]
     requires { IsStrictlySortedBy access_order accesses.now }

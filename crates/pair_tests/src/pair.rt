@@ -24,15 +24,17 @@ pub enum Conflict {
     },
 }
 
-/// Whether two jobs may run together: never, with the first conflict in order, or where the tests of the pair hold.
+/// Whether two jobs may run together: never, with the first conflict in order, or where the tests
+/// of the pair hold.
 #[derive(Clone, Copy, PartialEq, Eq)]
 pub enum Verdict {
     Never(Conflict),
     Tests,
 }
 
-/// What must hold of two jobs that run together, the first before the later one. `first` and `later` are places in the values
-/// with which they start, from 0. In this order, each by its numbers.
+/// What must hold of two jobs that run together, the first before the later one. `first` and
+/// `later` are places in the values with which they start, from 0. In this order, each by its
+/// numbers.
 #[derive(Clone, Copy, PartialEq, Eq, PartialOrd, Ord)]
 pub enum Test {
     /// These two values differ.

@@ -56,8 +56,8 @@ fn hold_with(one: Access, others: &[Access], hints: &mut Hints, a: &JobStart, b:
     reads & writes
 }
 
-/// Whether the tests of accesses of the first with those of the later hold. Lists in order are gone through once, and what can ask for
-/// none is passed.
+/// Whether the tests of accesses of the first with those of the later hold. Lists in order are gone
+/// through once, and what can ask for none is passed.
 #[tactic(auto, using(crate::proofs::Holding::all_begin, crate::proofs::Holding::all_more, crate::proofs::Holding::all_fails, crate::proofs::Holding::all_end))]
 fn fields_hold(ones: &[Access], others: &[Access], a: &JobStart, b: &JobStart) -> bool
     requires ones { IsStrictlySortedBy access_order ones.now }
@@ -113,8 +113,8 @@ fn tests_hold(first: &Summary, later: &Summary, a: &JobStart, b: &JobStart) -> b
     fields & release
 }
 
-/// Whether the two jobs may run at once, the first before the later one in the single run: no conflict of their summaries, all
-/// tests hold, and they are not of one forlopp other than 0.
+/// Whether the two jobs may run at once, the first before the later one in the single run: no
+/// conflict of their summaries, all tests hold, and they are not of one forlopp other than 0.
 #[tactic(auto, using(crate::proofs::Holding::passing))]
 pub fn passes(first: &Summary, later: &Summary, a: &JobStart, b: &JobStart) -> bool
     ensures { IsTrue result ↔ Passes first.now later.now a.now b.now }

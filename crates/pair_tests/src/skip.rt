@@ -1,5 +1,6 @@
-// Which accesses of the first need no look: those that nothing of the later is near, and those whose conflicts come too late. In a
-// list in order those of one kind stand side by side, by their numbers, so that they are passed at once.
+// Which accesses of the first need no look: those that nothing of the later is near, and those
+// whose conflicts come too late. In a list in order those of one kind stand side by side, by their
+// numbers, so that they are passed at once.
 ghost use Rattle.std.specs.Prelude.{◌≡◌, ◌≤◌, List, Some, length, slice_get};
 ghost use Rattle.std.specs.List.Sorted.{IsStrictlySortedBy};
 ghost use Rattle.std.specs.declared.cmp.Ordering.TheVariants.{Less};
@@ -7,15 +8,16 @@ ghost use Rattle.entry_summary.specs.declared.summary.Access.{Access as AccessTy
 ghost use Rattle.entry_summary.specs.declared.summary.Access.TheVariants as access;
 ghost use Rattle.entry_summary.specs.Orders.{access_order};
 ghost use Rattle.flow_points.specs.declared.fact.Value.TheVariants.{Arg};
-ghost use Rattle.pair_tests.specs.Idle.{behind as behind_of, comes_late as comes_late_of, next_met as next_met_of, AreSo, IsIdle, IsLate, IsPassed};
+ghost use Rattle.pair_tests.specs.Idle.{behind as behind_of, comes_late as comes_late_of};
+ghost use Rattle.pair_tests.specs.Idle.{next_met as next_met_of, AreSo, IsIdle, IsLate, IsPassed};
 
 use crate::near::{Bound, Hints, count_within, lowest, passes_reads};
 use crate::pair::Conflict;
 use entry_summary::Access;
 use flow_points::Value;
 
-/// The first access that there may be behind those of the kind of this one: it reads or writes variables or fields, or is of own
-/// records. One that seizes or frees is told itself.
+/// The first access that there may be behind those of the kind of this one: it reads or writes
+/// variables or fields, or is of own records. One that seizes or frees is told itself.
 fn behind(one: Access) -> Access
     ensures { result ≡ behind_of one }
 {
@@ -71,8 +73,9 @@ fn first_of_field(write: bool, number: u32) -> Access
     }
 }
 
-/// The first access of the kind of this one that is near the next one of the later, if that writes, or does not, as is asked; else
-/// the one behind them. One of own records or of a file is told itself.
+/// The first access of the kind of this one that is near the next one of the later, if that writes,
+/// or does not, as is asked; else the one behind them. One of own records or of a file is told
+/// itself.
 fn next_met(one: Access, writes: bool, next: Option<Access>) -> Access
     ensures { result ≡ next_met_of one writes next }
 {
@@ -114,8 +117,8 @@ fn passed(accesses: &[Access], bound: Access, place: usize) -> usize
     count
 }
 
-/// The place behind those of the kind of this one, from its place on, that none of the later which writes, or does not, is near. `hint`
-/// is where these were found last.
+/// The place behind those of the kind of this one, from its place on, that none of the later which
+/// writes, or does not, is near. `hint` is where these were found last.
 fn apart_from(
     ones: &[Access],
     one: Access,
@@ -135,7 +138,8 @@ fn apart_from(
     passed(ones, next_met(one, writes, next), place)
 }
 
-/// The place behind those accesses of the first from this place on that nothing of the later is near.
+/// The place behind those accesses of the first from this place on that nothing of the later is
+/// near.
 #[tactic(auto, using(crate::proofs::Skipping::none_passed))]
 pub(crate) fn next_near(
     ones: &[Access],
@@ -183,7 +187,8 @@ fn comes_late(one: Access, first: Option<Conflict>) -> bool
     }
 }
 
-/// The place behind those accesses of the first from this place on whose conflicts come after the first one that is known.
+/// The place behind those accesses of the first from this place on whose conflicts come after the
+/// first one that is known.
 #[tactic(auto, using(crate::proofs::Skipping::none_late))]
 fn next_early(ones: &[Access], place: usize, first: Option<Conflict>) -> usize
     requires order { IsStrictlySortedBy access_order ones.now }
@@ -199,7 +204,8 @@ fn next_early(ones: &[Access], place: usize, first: Option<Conflict>) -> usize
     passed(ones, behind(one), place)
 }
 
-/// The place behind those accesses of the first from this place on that have no conflict before the first one that is known.
+/// The place behind those accesses of the first from this place on that have no conflict before the
+/// first one that is known.
 pub(crate) fn next_sooner(
     ones: &[Access],
     others: &[Access],

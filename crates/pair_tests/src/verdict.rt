@@ -17,8 +17,8 @@ pub fn first_conflict(first: &Summary, later: &Summary) -> Option<Conflict>
     sooner(clash, above)
 }
 
-/// Whether jobs of the two may run at once, the first before the later one in the single run: never, with the first conflict in
-/// order, or where tests hold.
+/// Whether jobs of the two may run at once, the first before the later one in the single run:
+/// never, with the first conflict in order, or where tests hold.
 #[tactic(auto, unfolding(crate::specs::Clashes::IsLeastConflict))]
 pub fn verdict_of(first: &Summary, later: &Summary) -> Verdict
     ensures { IsVerdict first.now later.now result }

@@ -1,5 +1,7 @@
--- Where no job flies: the books and the root are those of the state, and the next job may run alone.
-use Rattle.std.proofs.Common.{inl, ◌≡◌, ℕ, ◌+◌, ◌<◌, ◌≤◌, List, [], ◌∷◌, Some, None, refl, sym, ap, ◌∙◌, subst, arith}
+-- Where no job flies: the books and the root are those of the state, and the next job may run
+-- alone.
+use Rattle.std.proofs.Common.{inl, ◌≡◌, ℕ, ◌+◌, ◌<◌, ◌≤◌, List, [], ◌∷◌, Some, None, refl, sym, ap}
+use Rattle.std.proofs.Common.{◌∙◌, subst, arith}
 use Rattle.plex_limits.specs.declared.limits.TheConstants.{MOST_JOBS}
 use Rattle.machine_code.specs.Coded.{Code}
 use Rattle.exchange_model.specs.declared.exchange.Exchange.{Exchange}
@@ -49,7 +51,8 @@ bare_of x k s books top fly = by top.loans fly.listed
     by [] none = refl
     by (l ∷ rest) none = absurd (none l (inl refl))
 
-pub fly_none : (x : Exchange) (k : KeptSummaries) (s : State) (books : Account) (top : Top) → IsValid x s → with_words books.state top.values ≡ s → books.running ≡ 0 → top.loans ≡ [] → Fly x k s books top []
+pub fly_none : (x : Exchange) (k : KeptSummaries) (s : State) (books : Account) (top : Top) → IsValid x s
+    → with_words books.state top.values ≡ s → books.running ≡ 0 → top.loans ≡ [] → Fly x k s books top []
 fly_none x k s books top valid same nobody bare = record {
   valid = valid;
   values = ap (λ (t : State). t.store) same;
@@ -64,7 +67,8 @@ fly_none x k s books top valid same nobody bare = record {
 -- ## The next job runs alone
 
 -- a context that suits is one
-pub context_fits : {x : Exchange} {o : Code} {s : StoreId} {b : BookId} {k : KeptSummaries} {w : ℕ} {c : RunContext} {m : Means} {book : BookId} → Suits x o s b k w c m book → IsContext c
+pub context_fits : {x : Exchange} {o : Code} {s : StoreId} {b : BookId} {k : KeptSummaries} {w : ℕ} {c : RunContext}
+    {m : Means} {book : BookId} → Suits x o s b k w c m book → IsContext c
 context_fits {c = c} u = record {
   laid = subst (λ (y : Exchange). IsLayout y.blocks c.layout.now) (sym u.exchange) u.laid;
   faithful = subst (λ (z : Exchange × Code). Faithful z.0 z.1) (λ i. (sym u.exchange i, sym u.code i)) u.set.faithful;
@@ -72,9 +76,13 @@ context_fits {c = c} u = record {
   some = u.some;
 }
 
-pub may_turn : (x y : Exchange) (k : KeptSummaries) (books : Account) (top : Top) (w : View) → y ≡ x → MayRunAlone books w → ending_at books.limit books.state ≡ None → books.limit ≤ MOST_JOBS → (s : State) × Fly x k s books top w.loans → MayTurn y books top
+pub may_turn : (x y : Exchange) (k : KeptSummaries) (books : Account) (top : Top) (w : View) → y ≡ x
+    → MayRunAlone books w → ending_at books.limit books.state ≡ None → books.limit ≤ MOST_JOBS
+    → (s : State) × Fly x k s books top w.loans → MayTurn y books top
 may_turn x y k books top w same may goes most flying =
-    let here : (s : State) × Fly y k s books top [] = subst (λ (z : Exchange × List Lent). (s : State) × Fly z.0 k s books top z.1) (λ i. (sym same i, may.nobody i)) flying in
+    let here : (s : State) × Fly y k s books top [] = subst
+    (λ (z : Exchange × List Lent). (s : State) × Fly z.0 k s books top z.1) (λ i. (sym same i, may.nobody i)) flying
+    in
     record {
       turn = record {
         nobody = here.1.running;
@@ -85,7 +93,9 @@ may_turn x y k books top w same may goes most flying =
       bare = bare_of y k here.0 books top here.1;
     }
 
-module _ (x : Exchange) (k : KeptSummaries) (code : Code) (kept : IsExchange x) (books : Account) (top : Top) (goes : ending_at books.limit books.state ≡ None) (nobody : books.running ≡ 0) (last : Account) (left : Retired) (t : HasTurnedAlone x code books top last left.root.1 left.steps) where
+module _ (x : Exchange) (k : KeptSummaries) (code : Code) (kept : IsExchange x) (books : Account) (top : Top)
+    (goes : ending_at books.limit books.state ≡ None) (nobody : books.running ≡ 0) (last : Account) (left : Retired)
+    (t : HasTurnedAlone x code books top last left.root.1 left.steps) where
   makes_alone : (s : State) → Fly x k s books top [] → JobMakes code s left.steps
   makes_alone s fly = record {
     start = t.start;
@@ -123,25 +133,33 @@ module _ (x : Exchange) (k : KeptSummaries) (code : Code) (kept : IsExchange x) 
       omega (arith, few, ended, runs, before, limit)
 
   -- its events are Issue, its instructions, and Retire
-  led_alone : (workers : ℕ) → 0 < workers → NoLineBefore (books.state.ended + 1) books.state.lines → IsLed (setting x code k workers) whole_turn books top [] last left.root.1 [] left.steps
+  led_alone : (workers : ℕ) → 0 < workers → NoLineBefore (books.state.ended + 1) books.state.lines
+      → IsLed (setting x code k workers) whole_turn books top [] last left.root.1 [] left.steps
   led_alone workers some line =
       let mid_books = after_start (Some t.start) books in
       let lends = lender t.start no_permit top in
       let loan = lent top t.start no_permit in
       let count : books.state.ended + 1 ≡ books.state.ended + 0 + 1 = omega arith in
-      let last_is : last ≡ record t.settled { state = arrived x t.settled.running t.settled.state } = t.arrived ∙ sym (ap (λ m. record t.settled { state = arrived x m t.settled.state }) t.nobody) in
-      let issue = is_issued x code k workers books top [] t.start no_permit nobody t.is_next some (subst (λ m. NoLineBefore m books.state.lines) count line) tt in
-      let turn = turn_led x code k workers mid_books lends t.start [] t.end t.ends t.settled left.root.1.values t.left t.nobody t.limit left.root.1 refl loan refl left.steps t.made in
+      let last_is : last ≡ record t.settled { state = arrived x t.settled.running t.settled.state } = t.arrived
+      ∙ sym (ap (λ m. record t.settled { state = arrived x m t.settled.state }) t.nobody) in
+      let issue = is_issued x code k workers books top [] t.start no_permit nobody t.is_next some
+      (subst (λ m. NoLineBefore m books.state.lines) count line) tt in
+      let turn = turn_led x code k workers mid_books lends t.start [] t.end t.ends t.settled left.root.1.values t.left
+      t.nobody t.limit left.root.1 refl loan refl left.steps t.made in
       subst (λ b. IsLed (setting x code k workers) whole_turn books top [] b left.root.1 [] left.steps) (sym last_is)
-      (issue_then_turn (setting x code k workers) books mid_books (record t.settled { state = arrived x t.settled.running t.settled.state }) top lends left.root.1 [] (loan ∷ []) [] left.steps issue turn)
+      (issue_then_turn (setting x code k workers) books mid_books
+      (record t.settled { state = arrived x t.settled.running t.settled.state }) top lends left.root.1 []
+      (loan ∷ []) [] left.steps issue turn)
 
-  pub turned_alone : (store : StoreId) (w v : View) → MayRunAlone books w → v ≡ w → left.root.0 ≡ store → AreCounted books w → HasTurned x k code store whole_turn books top w last left v
+  pub turned_alone : (store : StoreId) (w v : View) → MayRunAlone books w → v ≡ w → left.root.0 ≡ store
+      → AreCounted books w → HasTurned x k code store whole_turn books top w last left v
   turned_alone store w v may same home counted =
       let none : v.loans ≡ [] = ap (λ (u : View). u.loans) same ∙ may.nobody in
       record {
         fly = λ s fly. subst (λ ls. Fly x k (turn x s) last left.root.1 ls) (sym none) (gone_alone s (subst (λ ls. Fly x k s books top ls) may.nobody fly));
         steps = λ s fly. makes_alone s (subst (λ ls. Fly x k s books top ls) may.nobody fly);
-        led = subst (λ (z : List Lent × List Lent). IsLed (setting x code k w.room) whole_turn books top z.0 last left.root.1 z.1 left.steps) (λ i. (sym may.nobody i, sym none i)) (led_alone w.room may.room may.line);
+        led = subst (λ (z : List Lent × List Lent). IsLed (setting x code k w.room) whole_turn books top z.0 last
+            left.root.1 z.1 left.steps) (λ i. (sym may.nobody i, sym none i)) (led_alone w.room may.room may.line);
         home = home;
         limit = t.turn.limit;
         room = ap (λ (u : View). u.room) same;

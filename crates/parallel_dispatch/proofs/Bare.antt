@@ -1,4 +1,5 @@
--- The permit of a trace lets the trace be made, and no more than the touches of the trace are permitted.
+-- The permit of a trace lets the trace be made, and no more than the touches of the trace are
+-- permitted.
 use Rattle.std.proofs.Common.{◌≡◌, ℕ, true, List, [], ◌∷◌, subst, inr, ⊎_elim}
 use Rattle.std.proofs.lemmas.Bool.{or_cases, or_left, or_right, false≢true}
 use Rattle.std.specs.List.{list_any}
@@ -38,12 +39,23 @@ module _ (x : Exchange) (m : Summary) (start : JobStart) (chains : ChainMap) whe
   bare_writes ts all w e = stored ts all w e
 
   pub bare_reads : (ts : List Touch) → ArePermitted x m start chains ts → (w : ℕ) → may_read (bare ts) w ≡ true → MayRead x m start chains w
-  bare_reads ts all w e = ⊎_elim (λ h. loaded ts all w h) (λ h. inr (stored ts all w h)) (or_cases (list_any (λ s. spans s w) (loads_of ts)) (may_write (bare ts) w) e)
+  bare_reads ts all w e = ⊎_elim (λ h. loaded ts all w h) (λ h. inr (stored ts all w h))
+      (or_cases (list_any (λ s. spans s w) (loads_of ts)) (may_write (bare ts) w) e)
 
-keeps_of : (p : Permit) (ts : List Touch) → ((w : ℕ) → list_any (λ s. spans s w) (loads_of ts) ≡ true → may_read p w ≡ true) → ((w : ℕ) → list_any (λ s. spans s w) (stores_of ts) ≡ true → may_write p w ≡ true) → KeepsPermit p ts
+keeps_of : (p : Permit) (ts : List Touch) → ((w : ℕ) → list_any (λ s. spans s w) (loads_of ts) ≡ true
+    → may_read p w ≡ true) → ((w : ℕ) → list_any (λ s. spans s w) (stores_of ts) ≡ true → may_write p w ≡ true)
+    → KeepsPermit p ts
 keeps_of p [] reads writes = tt
-keeps_of p (Load w v ∷ ts) reads writes = (reads w (or_left (spans (one_word w) w) _ (one_word_in w)), keeps_of p ts (λ u e. reads u (or_right (spans (one_word w) u) _ e)) writes)
-keeps_of p (Store w v ∷ ts) reads writes = (writes w (or_left (spans (one_word w) w) _ (one_word_in w)), keeps_of p ts reads (λ u e. writes u (or_right (spans (one_word w) u) _ e)))
+keeps_of p (Load w v ∷ ts) reads writes = (
+  reads w (or_left (spans (one_word w) w) _ (one_word_in w)),
+  keeps_of p ts
+      (λ u e. reads u (or_right (spans (one_word w) u) _ e)) writes,
+)
+keeps_of p (Store w v ∷ ts) reads writes = (
+  writes w (or_left (spans (one_word w) w) _ (one_word_in w)),
+  keeps_of p ts
+      reads (λ u e. writes u (or_right (spans (one_word w) u) _ e)),
+)
 
 pub keeps_bare : (ts : List Touch) → KeepsPermit (bare ts) ts
 keeps_bare ts = keeps_of (bare ts) ts (λ w e. or_left _ (may_write (bare ts) w) e) (λ w e. e)

@@ -1,11 +1,17 @@
 -- Each instruction is counted once, and so are the events of a list.
-use Rattle.std.proofs.Common.{◌≡◌, ℕ, zero, suc, ◌+◌, ◌%◌, ◌^◌, Bool, true, false, if◌then◌else◌, List, [], ◌∷◌, ◌++◌, refl, sym, ap, ◌∙◌, arith}
+use Rattle.std.proofs.Common.{◌≡◌, ℕ, zero, suc, ◌+◌, ◌%◌, ◌^◌, Bool, true, false, if◌then◌else◌}
+use Rattle.std.proofs.Common.{List, [], ◌∷◌, ◌++◌, refl, sym, ap, ◌∙◌, arith}
 use Rattle.std.proofs.Math.Nat.{mod-add-mod}
 use Rattle.job_types.specs.Truth.{at_zero}
 use Rattle.machine_code.specs.declared.op.Op.{Op}
-use Rattle.machine_code.specs.declared.op.Op.TheVariants.{Stmt, Ldi, Ldt, Stt, Lde, Lda, Add, Sub, Mul, Div, Rem, Eq, Ne, Lt, Le, Gt, Ge, And, Or, Jmp, Jz, Ldw, Stw, Ckw, Ckp, Own, Ldx, Stx, Ckf, Chn, Unc, Arg, Snd, Dir, Call, Ret, Trf, End}
+use Rattle.machine_code.specs.declared.op.Op.TheVariants.{Stmt, Ldi, Ldt, Stt, Lde, Lda, Add, Sub}
+use Rattle.machine_code.specs.declared.op.Op.TheVariants.{Mul, Div, Rem, Eq, Ne, Lt, Le, Gt, Ge}
+use Rattle.machine_code.specs.declared.op.Op.TheVariants.{And, Or, Jmp, Jz, Ldw, Stw, Ckw, Ckp, Own}
+use Rattle.machine_code.specs.declared.op.Op.TheVariants.{Ldx, Stx, Ckf, Chn, Unc, Arg, Snd, Dir}
+use Rattle.machine_code.specs.declared.op.Op.TheVariants.{Call, Ret, Trf, End}
 use Rattle.machine_meaning.specs.declared.frame.Frame.{Frame}
-use Rattle.machine_meaning.specs.Machine.{Machine, ends, loaded, machine_step, made_one, reach, returns, row}
+use Rattle.machine_meaning.specs.Machine.{Machine, ends, loaded, machine_step, made_one, reach}
+use Rattle.machine_meaning.specs.Machine.{returns, row}
 use Rattle.machine_meaning.specs.Private.{Private}
 use Rattle.interleave_core.specs.declared.event.CoreEvent.{CoreEvent}
 use Rattle.interleave_core.specs.declared.event.CoreEvent.TheVariants.{Issue, Step, Retire}
@@ -90,10 +96,13 @@ steps_so_many zero job = refl
 steps_so_many (suc n) job = ap suc (steps_so_many n job)
 
 pub steps_turn : (n job : ℕ) → steps_in (turn_of n job) ≡ n
-steps_turn n job = (let all : steps_in (turn_of n job) ≡ steps_in (so_many_steps n job) + 0 = steps_append (so_many_steps n job) (Retire ∷ []) in let steps = steps_so_many n job in omega (arith, all, steps))
+steps_turn n job = (let all : steps_in (turn_of n job) ≡ steps_in (so_many_steps n job)
+    + 0 = steps_append (so_many_steps n job) (Retire ∷ []) in let steps = steps_so_many n job in omega
+    (arith, all, steps))
 
 -- two lists, each of so many modulo 2^64
-pub sum_made : (es fs : List CoreEvent) (steps made : ℕ) → steps ≡ steps_in es % 2 ^ 64 → made ≡ steps_in fs % 2 ^ 64 → (steps + made) % 2 ^ 64 ≡ steps_in (es ++ fs) % 2 ^ 64
+pub sum_made : (es fs : List CoreEvent) (steps made : ℕ) → steps ≡ steps_in es % 2 ^ 64 → made ≡ steps_in fs % 2 ^ 64
+    → (steps + made) % 2 ^ 64 ≡ steps_in (es ++ fs) % 2 ^ 64
 sum_made es fs steps made one other =
     let a = steps_in es in
     let b = steps_in fs in

@@ -1,5 +1,6 @@
 -- What each move leaves of what the type of the desk keeps.
-use Rattle.std.proofs.Common.{◌≡◌, ℕ, ◌+◌, ◌%◌, ◌^◌, ◌<◌, ◌≤◌, List, [], length, None, Some, refl, sym, ap, ◌∙◌, subst, arith}
+use Rattle.std.proofs.Common.{◌≡◌, ℕ, ◌+◌, ◌%◌, ◌^◌, ◌<◌, ◌≤◌, List, [], length, None, Some, refl}
+use Rattle.std.proofs.Common.{sym, ap, ◌∙◌, subst, arith}
 use Rattle.std.specs.List.{AllByRecursion}
 use Rattle.plex_limits.specs.declared.limits.TheConstants.{MOST_JOBS}
 use Rattle.job_types.specs.declared.job.JobStart.{JobStart}
@@ -30,13 +31,17 @@ use Rattle.parallel_dispatch.specs.Desks.{IsDesk}
 use Rattle.parallel_dispatch.specs.Ends.{AreLedTo, EndsAs, IsRunEnd, IsRunRest}
 use Rattle.parallel_dispatch.specs.Events.{IsIssued, IsLed, IsReached}
 use Rattle.parallel_dispatch.specs.Flying.{Fly, starts_of}
-use Rattle.parallel_dispatch.specs.Moves.{AreCounted, AreOf, Flying, HasSummary, HasTurned, MayBegin, StandBeside}
+use Rattle.parallel_dispatch.specs.Moves.{AreCounted, AreOf, Flying, HasSummary, HasTurned}
+use Rattle.parallel_dispatch.specs.Moves.{MayBegin, StandBeside}
 use Rattle.parallel_dispatch.specs.Windows.{View}
-use Rattle.parallel_dispatch.proofs.Reaching.{reached_ended, reached_issue, reached_led, reached_rests, reached_turn}
-use Rattle.parallel_dispatch.proofs.Standing.{all_summaries, next_summary, none_lent, stand_begin, stand_line, stand_some, words_at_end}
+use Rattle.parallel_dispatch.proofs.Reaching.{reached_ended, reached_issue, reached_led}
+use Rattle.parallel_dispatch.proofs.Reaching.{reached_rests, reached_turn}
+use Rattle.parallel_dispatch.proofs.Standing.{all_summaries, next_summary, none_lent, stand_begin}
+use Rattle.parallel_dispatch.proofs.Standing.{stand_line, stand_some, words_at_end}
 
 -- the first state is valid
-pub begins_valid : (x : Exchange) (store : StoreId) (book : BookId) (first : State) (limit : ℕ) (pen : PenView) (run : StoredRun) → MayBegin x store book first limit pen run → IsValid x first
+pub begins_valid : (x : Exchange) (store : StoreId) (book : BookId) (first : State) (limit : ℕ) (pen : PenView)
+    (run : StoredRun) → MayBegin x store book first limit pen run → IsValid x first
 begins_valid x store book first limit pen run may = subst (IsValid x) may.first_is may.start.valid
 
 module _ (x : Exchange) (k : KeptSummaries) (code : Code) (store : StoreId) (workers : ℕ) (first : State) (limit : ℕ) where
@@ -46,10 +51,15 @@ module _ (x : Exchange) (k : KeptSummaries) (code : Code) (store : StoreId) (wor
   module _ (o : AreOf x code k) where
     -- ## The beginning
 
-    pub desk_opened : (y : Exchange) → y ≡ x → (book : BookId) (pen : PenView) (b : StoredRun) → MayBegin x store book first limit pen b → (books : Account) → books ≡ record b.books { state = arrivals y b.books.state } → (own : ℕ) → own ≡ workers → 0 < own → (w : View) → w ≡ record { loans = []; room = own; flown = pen.1 } → Here books b.root w 0
+    pub desk_opened : (y : Exchange) → y ≡ x → (book : BookId) (pen : PenView) (b : StoredRun)
+        → MayBegin x store book first limit pen b → (books : Account)
+        → books ≡ record b.books { state = arrivals y b.books.state } → (own : ℕ) → own ≡ workers → 0 < own → (w : View)
+        → w ≡ record { loans = []; room = own; flown = pen.1 } → Here books b.root w 0
     desk_opened y exchange_is book pen b may books is own workers_are some w window_is =
-        let here : books ≡ record b.books { state = arrivals x b.books.state } = is ∙ ap (λ e. record b.books { state = arrivals e b.books.state }) exchange_is in
-        let stand = stand_begin x k code o.exchange o.checked o.true_of workers limit b.books books b.root.1 (ap (λ (r : RootView). r.1) may.start.root) may.start.nobody may.limit_is may.start.valid here in
+        let here : books ≡ record b.books { state = arrivals x b.books.state } = is
+        ∙ ap (λ e. record b.books { state = arrivals e b.books.state }) exchange_is in
+        let stand = stand_begin x k code o.exchange o.checked o.true_of workers limit b.books books b.root.1
+        (ap (λ (r : RootView). r.1) may.start.root) may.start.nobody may.limit_is may.start.valid here in
         let none : pen.1 ≡ 0 = ap (λ (p : PenView). p.1) may.pen_is in
         subst (λ (v : View). Here books b.root v 0) (sym window_is) (record {
           reached = subst (λ (t : State). IsReached x k code workers t limit books b.root.1 [] 0) may.first_is stand;
@@ -72,7 +82,10 @@ module _ (x : Exchange) (k : KeptSummaries) (code : Code) (store : StoreId) (wor
       pub desk_stands : (old : Account) → old ≡ books → StandBeside x k store old root w
       desk_stands old is = subst (λ (b : Account). StandBeside x k store b root w) (sym is) (record { home = h.home; counted = h.counted; flying = desk_flies })
 
-      pub desk_issued : (old next : Account) (now : RootView) (v : View) → old ≡ books → IsIssued (setting x code k w.room) old root.1 w.loans next now.1 v.loans → next.limit ≡ old.limit → ((s : State) → Fly x k s old root.1 w.loans → Fly x k s next now.1 v.loans) → now.0 ≡ store → v.room ≡ w.room → AreCounted next v → Here next now v steps
+      pub desk_issued : (old next : Account) (now : RootView) (v : View) → old ≡ books
+          → IsIssued (setting x code k w.room) old root.1 w.loans next now.1 v.loans → next.limit ≡ old.limit
+          → ((s : State) → Fly x k s old root.1 w.loans → Fly x k s next now.1 v.loans) → now.0 ≡ store
+          → v.room ≡ w.room → AreCounted next v → Here next now v steps
       desk_issued old next now v is issue limit_is fly home room counted = record {
         reached = reached_issue x k code workers first limit old next root.1 now.1 w.loans v.loans steps (desk_same old is).reached
             (subst (λ n. IsIssued (setting x code k n) old root.1 w.loans next now.1 v.loans) h.room issue)
@@ -84,7 +97,9 @@ module _ (x : Exchange) (k : KeptSummaries) (code : Code) (store : StoreId) (wor
         counted = counted;
       }
 
-      pub desk_turned : (events : ℕ → ℕ → List CoreEvent) (old next : Account) (left : Retired) (v : View) (total : ℕ) → old ≡ books → HasTurned x k code store events old root.1 w next left v → total ≡ (steps + left.steps) % 2 ^ 64 → Here next left.root v total
+      pub desk_turned : (events : ℕ → ℕ → List CoreEvent) (old next : Account) (left : Retired) (v : View) (total : ℕ)
+          → old ≡ books → HasTurned x k code store events old root.1 w next left v
+          → total ≡ (steps + left.steps) % 2 ^ 64 → Here next left.root v total
       desk_turned events old next left v total is t sum = record {
         reached = reached_turn x k code workers first limit events old next root.1 left.root.1 w.loans v.loans steps left.steps total (desk_same old is).reached
             (subst (λ n. IsLed (setting x code k n) events old root.1 w.loans next left.root.1 v.loans left.steps) h.room t.led)
@@ -101,10 +116,14 @@ module _ (x : Exchange) (k : KeptSummaries) (code : Code) (store : StoreId) (wor
       desk_line goes = stand_line x k code o.exchange o.checked o.true_of workers limit first books root.1 w.loans steps goes h.reached
 
       pub desk_next : (m : KeptSummaries) → m ≡ k → (start : JobStart) → Some start ≡ upcoming books → HasSummary m start
-      desk_next m is start next = subst (λ n. HasSummary n start) (sym is) (next_summary x k code o.exchange o.checked o.true_of workers limit first books root.1 w.loans start steps h.reached next)
+      desk_next m is start next = subst (λ n. HasSummary n start) (sym is)
+          (next_summary x k code o.exchange o.checked o.true_of workers limit first books root.1 w.loans start steps
+          h.reached next)
 
       pub desk_window : (m : KeptSummaries) → m ≡ k → AllByRecursion (HasSummary m) (starts_of w.loans)
-      desk_window m is = subst (λ n. AllByRecursion (HasSummary n) (starts_of w.loans)) (sym is) (all_summaries x k code o.exchange o.checked o.true_of workers limit first books root.1 (after x first h.reached.retired) w.loans h.reached.fly.lent)
+      desk_window m is = subst (λ n. AllByRecursion (HasSummary n) (starts_of w.loans)) (sym is)
+          (all_summaries x k code o.exchange o.checked o.true_of workers limit first books root.1
+          (after x first h.reached.retired) w.loans h.reached.fly.lent)
 
       pub desk_some : (w.loans ≡ [] → ending_at books.limit books.state ≡ None) → (w.loans ≡ [] → None ≡ upcoming books) → 0 < length w.loans
       desk_some goes none = stand_some x k code o.exchange o.checked o.true_of workers limit first books root.1 w.loans steps goes none h.reached
@@ -127,12 +146,17 @@ module _ (x : Exchange) (k : KeptSummaries) (code : Code) (store : StoreId) (wor
           pub desk_cells : (cells : ℕ) → cells ≡ cell_count x.blocks → length root.1.values ≡ cells
           desk_cells cells is = words_at_end x code first limit books.state root.1.values e steps o.exchange valid desk_ends ∙ sym is
 
-          pub desk_over : (end : Ended) → end.books ≡ books → end.words ≡ root.1.values → ending_of end.ending ≡ e → end.steps ≡ steps → IsRunEnd x code k workers first limit end
+          pub desk_over : (end : Ended) → end.books ≡ books → end.words ≡ root.1.values → ending_of end.ending ≡ e
+              → end.steps ≡ steps → IsRunEnd x code k workers first limit end
           desk_over end books_are words_are ending_is steps_are =
-              let led : AreLedTo (setting x code k workers) first limit books.state root.1.values steps = reached_led x k code workers first limit books root.1 steps over_here in
+              let led : AreLedTo (setting x code k workers) first limit books.state root.1.values steps =
+              reached_led x k code workers first limit books root.1 steps over_here in
               record {
-                ends = subst (λ (z : (Account × List ℕ) × (Ending × ℕ)). EndsAs x code first limit z.0.0.state z.0.1 z.1.0 z.1.1) (λ i. ((sym books_are i, sym words_are i), (sym ending_is i, sym steps_are i))) desk_ends;
-                led = subst (λ (z : Account × (List ℕ × ℕ)). AreLedTo (setting x code k workers) first limit z.0.state z.1.0 z.1.1) (λ i. (sym books_are i, (sym words_are i, sym steps_are i))) led;
+                ends = subst (λ (z : (Account × List ℕ) × (Ending × ℕ)). EndsAs x code first limit z.0.0.state z.0.1
+                    z.1.0 z.1.1) (λ i. ((sym books_are i, sym words_are i), (sym ending_is i, sym steps_are i)))
+                    desk_ends;
+                led = subst (λ (z : Account × (List ℕ × ℕ)). AreLedTo (setting x code k workers) first limit z.0.state
+                    z.1.0 z.1.1) (λ i. (sym books_are i, (sym words_are i, sym steps_are i))) led;
                 nobody = ap (λ (b : Account). b.running) books_are ∙ over_here.fly.running;
               }
 
@@ -140,7 +164,8 @@ module _ (x : Exchange) (k : KeptSummaries) (code : Code) (store : StoreId) (wor
 
         module _ (valid : IsValid x first) where
           desk_way : (run : Standing) → run.books ≡ books → run.words ≡ root.1.values → IsOnTheWay x first limit run
-          desk_way run books_are words_are = reached_rests x k code workers first limit o.exchange o.faithful o.checked valid books root.1 steps over_here run books_are words_are
+          desk_way run books_are words_are = reached_rests x k code workers first limit o.exchange o.faithful o.checked
+              valid books root.1 steps over_here run books_are words_are
 
           -- there is a word for each cell
           pub rest_cells : (cells : ℕ) → cells ≡ cell_count x.blocks → length root.1.values ≡ cells
@@ -148,10 +173,13 @@ module _ (x : Exchange) (k : KeptSummaries) (code : Code) (store : StoreId) (wor
               let way = desk_way (record { books = books; words = root.1.values }) refl refl in
               way.may.valid.store.whole ∙ o.exchange.numbered.cells ∙ sym is
 
-          pub desk_rests : (run : Rested) → run.there.books ≡ books → run.there.words ≡ root.1.values → run.steps ≡ steps → IsRunRest x code k workers first limit run
+          pub desk_rests : (run : Rested) → run.there.books ≡ books → run.there.words ≡ root.1.values
+              → run.steps ≡ steps → IsRunRest x code k workers first limit run
           desk_rests run books_are words_are steps_are =
-              let led : AreLedTo (setting x code k workers) first limit books.state root.1.values steps = reached_led x k code workers first limit books root.1 steps over_here in
+              let led : AreLedTo (setting x code k workers) first limit books.state root.1.values steps =
+              reached_led x k code workers first limit books root.1 steps over_here in
               record {
                 way = desk_way run.there books_are words_are;
-                led = subst (λ (z : Account × (List ℕ × ℕ)). AreLedTo (setting x code k workers) first limit z.0.state z.1.0 z.1.1) (λ i. (sym books_are i, (sym words_are i, sym steps_are i))) led;
+                led = subst (λ (z : Account × (List ℕ × ℕ)). AreLedTo (setting x code k workers) first limit z.0.state
+                    z.1.0 z.1.1) (λ i. (sym books_are i, (sym words_are i, sym steps_are i))) led;
               }

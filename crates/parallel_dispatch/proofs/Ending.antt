@@ -1,5 +1,7 @@
--- Where events lead that leave no job in the window, and the run is over: the end of the single run.
-use Rattle.std.proofs.Common.{◌≡◌, ⊎_elim, ℕ, ◌+◌, ◌<◌, List, [], ◌∷◌, ◌++◌, length, get_or, Some, refl, sym, ap, ◌∙◌, subst, slice_get, arith, length-set}
+-- Where events lead that leave no job in the window, and the run is over: the end of the single
+-- run.
+use Rattle.std.proofs.Common.{◌≡◌, ⊎_elim, ℕ, ◌+◌, ◌<◌, List, [], ◌∷◌, ◌++◌, length, get_or, Some}
+use Rattle.std.proofs.Common.{refl, sym, ap, ◌∙◌, subst, slice_get, arith, length-set}
 use Rattle.std.proofs.lemmas.Bool.{cases_eq}
 use Rattle.std.proofs.lemmas.List.{length-map}
 use Rattle.std.proofs.lemmas.Option.{slice_get-get_or}
@@ -29,7 +31,8 @@ use Rattle.interleave_core.proofs.Following.{Beside, follows_event, follows_sing
 use Rattle.interleave_core.proofs.Joining.{PairsGive, Progress, starts_of}
 use Rattle.parallel_dispatch.specs.Ending.{Went}
 
-module _ (x : Exchange) (kept : IsExchange x) (code : Code) (faithful : Faithful x code) (facts : KeptSummaries) (pairs : PairsGive x (MayFollow facts)) (first : State) where
+module _ (x : Exchange) (kept : IsExchange x) (code : Code) (faithful : Faithful x code) (facts : KeptSummaries)
+    (pairs : PairsGive x (MayFollow facts)) (first : State) where
   abbrev Follows : Core → Type 0
   Follows c = Beside x code (MayFollow facts) first c
 
@@ -37,13 +40,16 @@ module _ (x : Exchange) (kept : IsExchange x) (code : Code) (faithful : Faithful
   long_more [] job = refl
   long_more (j ∷ jobs) job = (let e = long_more jobs job in omega (arith, e))
 
-  went_issue : (workers : ℕ) (c : Core) (can : CanIssue facts workers c) → Follows (issues code can.start c) → Went x first c → Went x first (issues code can.start c)
+  went_issue : (workers : ℕ) (c : Core) (can : CanIssue facts workers c) → Follows (issues code can.start c)
+      → Went x first c → Went x first (issues code can.start c)
   went_issue workers c can f w =
       let s = f.state in
       let starts = starts_of f.jobs in
       let n = length c.window in
       let long : length starts ≡ n + 1 =
-      length-map f.jobs (λ (j : Progress). j.start) ∙ sym (length-map f.jobs (stands_at code s.store)) ∙ sym (ap length f.window) ∙ long_more c.window (record { start = can.start; run = started code can.start }) in
+      length-map f.jobs (λ (j : Progress). j.start) ∙ sym (length-map f.jobs (stands_at code s.store))
+      ∙ sym (ap length f.window) ∙ long_more c.window (record { start = can.start; run = started code can.start })
+      in
       let ended : c.state.ended ≡ s.ended = ap (λ (t : State). t.ended) f.shares.ahead.same in
       let lt : c.state.ended + n < c.limit = can.limited in
       let were = w.counted in
@@ -54,12 +60,18 @@ module _ (x : Exchange) (kept : IsExchange x) (code : Code) (faithful : Faithful
       record {
         counted = were;
         few = (let more = long_more c.window (record { start = can.start; run = started code can.start }) in omega (arith, more, lt, were));
-        goes_on = λ m less. ⊎_elim (λ same. ap (λ i. ending_at c.limit (after x first i)) same ∙ ap (ending_at c.limit) here ∙ none) (λ other. w.goes_on m (let ne = other in let more = long_more c.window (record { start = can.start; run = started code can.start }) in grind (arith, less, ne, more))) (cases_eq m (c.retired + n));
+        goes_on = λ m less. ⊎_elim (λ same. ap (λ i. ending_at c.limit (after x first i)) same
+            ∙ ap (ending_at c.limit) here ∙ none)
+            (λ other. w.goes_on m (let ne = other in let more = long_more c.window
+            (record { start = can.start; run = started code can.start }) in grind (arith, less, ne, more)))
+            (cases_eq m (c.retired + n));
       }
 
   went_step : (c : Core) (place : ℕ) (job : WindowJob) → Went x first c → Went x first (steps code place job c)
   went_step c place job w =
-      let same : length (steps code place job c).window ≡ length c.window = length-set c.window place (record { start = job.start; run = (stepped code.ops job.run c.state.store).run }) in
+      let same : length (steps code place job c).window
+      ≡ length c.window = length-set c.window place
+      (record { start = job.start; run = (stepped code.ops job.run c.state.store).run }) in
       let were = w.few in
       record {
         counted = w.counted;
@@ -71,7 +83,8 @@ module _ (x : Exchange) (kept : IsExchange x) (code : Code) (faithful : Faithful
   settled_ended [] s = (arrivals_keep x s).ended
   settled_ended (job ∷ rest) s = refl
 
-  went_retire : (c : Core) (oldest : WindowJob) (younger : List WindowJob) → c.window ≡ oldest ∷ younger → Went x first c → Went x first (lets_go x oldest younger c)
+  went_retire : (c : Core) (oldest : WindowJob) (younger : List WindowJob) → c.window ≡ oldest ∷ younger
+      → Went x first c → Went x first (lets_go x oldest younger c)
   went_retire c oldest younger is w =
       let done = done_of oldest.run.own oldest.run.over in
       let ended : (lets_go x oldest younger c).state.ended ≡ c.state.ended + 1 =
@@ -85,12 +98,15 @@ module _ (x : Exchange) (kept : IsExchange x) (code : Code) (faithful : Faithful
         goes_on = λ n less. w.goes_on n (omega (arith, less, long));
       }
 
-  went_event : (workers : ℕ) (c : Core) (e : CoreEvent) (can : IsAllowed facts workers c e) → Follows (after_event x code facts workers c e can) → Went x first c → Went x first (after_event x code facts workers c e can)
+  went_event : (workers : ℕ) (c : Core) (e : CoreEvent) (can : IsAllowed facts workers c e)
+      → Follows (after_event x code facts workers c e can) → Went x first c
+      → Went x first (after_event x code facts workers c e can)
   went_event workers c Issue can f w = went_issue workers c can f w
   went_event workers c (Step number) can f w = went_step c can.place can.job w
   went_event workers c Retire can f w = went_retire c can.oldest can.younger can.first w
 
-  pub went_runs : (workers : ℕ) (events : List CoreEvent) (c d : Core) → Follows c → Went x first c → Runs (runs.setting x code facts workers) events c d → Follows d × Went x first d
+  pub went_runs : (workers : ℕ) (events : List CoreEvent) (c d : Core) → Follows c → Went x first c
+      → Runs (runs.setting x code facts workers) events c d → Follows d × Went x first d
   unfolding Runs
   went_runs workers [] c d f w is = (subst Follows (sym is) f, subst (Went x first) (sym is) w)
   went_runs workers (e ∷ es) c d f w r =

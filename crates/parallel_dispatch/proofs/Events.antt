@@ -1,5 +1,6 @@
 -- Each move of the dispatcher as events of the core.
-use Rattle.std.proofs.Common.{◌≡◌, ℕ, ◌+◌, ◌%◌, ◌^◌, ◌<◌, List, [], ◌∷◌, ◌++◌, length, Some, refl, sym, ap, ◌∙◌, subst, arith}
+use Rattle.std.proofs.Common.{◌≡◌, ℕ, ◌+◌, ◌%◌, ◌^◌, ◌<◌, List, [], ◌∷◌, ◌++◌, length, Some, refl}
+use Rattle.std.proofs.Common.{sym, ap, ◌∙◌, subst, arith}
 use Rattle.std.proofs.lemmas.List.{length-map, map-append}
 use Rattle.std.specs.List.{AllByRecursion}
 use Rattle.job_types.specs.declared.job.JobStart.{JobStart}
@@ -39,12 +40,17 @@ line_first : (lines : List Coming) (n : ℕ) → NoLineBefore (n + 1) lines → 
 line_first [] n none = tt
 line_first (l ∷ rest) n le = omega (arith, le)
 
-follows_all : (k : KeptSummaries) (code : Code) (start : JobStart) (loans : List Lent) → AllByRecursion (λ (older : JobStart). MayFollow k older start) (starts_of loans) → AllByRecursion (λ (older : WindowJob). MayFollow k older.start start) (standing code loans)
+follows_all : (k : KeptSummaries) (code : Code) (start : JobStart) (loans : List Lent)
+    → AllByRecursion (λ (older : JobStart). MayFollow k older start) (starts_of loans)
+    → AllByRecursion (λ (older : WindowJob). MayFollow k older.start start) (standing code loans)
 follows_all k code start [] all = tt
 follows_all k code start (l ∷ rest) all = (all.0, follows_all k code start rest all.1)
 
 -- the next job may be issued, and what is shown then is the core after it
-pub is_issued : (x : Exchange) (code : Code) (k : KeptSummaries) (workers : ℕ) (books : Account) (top : Top) (loans : List Lent) (start : JobStart) (p : Permit) → books.running ≡ length loans → Some start ≡ upcoming books → length loans < workers → NoLineBefore (books.state.ended + length loans + 1) books.state.lines → AllByRecursion (λ (older : JobStart). MayFollow k older start) (starts_of loans)
+pub is_issued : (x : Exchange) (code : Code) (k : KeptSummaries) (workers : ℕ) (books : Account) (top : Top)
+    (loans : List Lent) (start : JobStart) (p : Permit) → books.running ≡ length loans → Some start ≡ upcoming books
+    → length loans < workers → NoLineBefore (books.state.ended + length loans + 1) books.state.lines
+    → AllByRecursion (λ (older : JobStart). MayFollow k older start) (starts_of loans)
     → IsIssued (setting x code k workers) books top loans (after_start (Some start) books) (lender start p top) (loans ++ lent top start p ∷ [])
 is_issued x code k workers books top loans start p running next room line pass retired =
     let c = shown code books top loans retired in
@@ -56,28 +62,37 @@ is_issued x code k workers books top loans start p running next room line pass r
       picked = next_with books.state top.values ∙ parts.1;
       worker = omega (arith, long, room);
       limited = omega (arith, long, few, running);
-      line = subst (λ n. IsBefore (next_count books.state.lines) (books.state.ended + n)) (sym long) (line_first books.state.lines (books.state.ended + length loans) line);
+      line = subst (λ n. IsBefore (next_count books.state.lines) (books.state.ended + n)) (sym long)
+          (line_first books.state.lines (books.state.ended + length loans) line);
       follows = follows_all k code start loans pass;
     } in
     let there = shown code (after_start (Some start) books) (lender start p top) (loans ++ lent top start p ∷ []) retired in
     let same : issues code start c ≡ there =
-    ap (λ jobs. core_of (after_start (Some start) books) top.values jobs retired) (sym (map-append (λ (l : Lent). record { start = l.start; run = started code l.start }) loans (lent top start p ∷ []))) in
+    ap (λ jobs. core_of (after_start (Some start) books) top.values jobs retired)
+    (sym (map-append (λ (l : Lent). record { start = l.start; run = started code l.start }) loans
+    (lent top start p ∷ []))) in
     subst (Runs (setting x code k workers) (Issue ∷ []) c) same (runs_one (setting x code k workers) c Issue can)
 
 -- ## The oldest job has its turn
 
-settles_shown : (x : Exchange) (code : Code) (rest : List Lent) (s : State) (words : List ℕ) (t : State) → t ≡ with_words s words → settles x (standing code rest) t ≡ with_words (arrived x (length rest) s) words
+settles_shown : (x : Exchange) (code : Code) (rest : List Lent) (s : State) (words : List ℕ) (t : State)
+    → t ≡ with_words s words → settles x (standing code rest) t ≡ with_words (arrived x (length rest) s) words
 settles_shown x code [] s words t is = ap (arrivals x) is ∙ arrivals_over x s words
 settles_shown x code (l ∷ rest) s words t is = is
 
-module _ (x : Exchange) (code : Code) (k : KeptSummaries) (workers : ℕ) (books : Account) (top : Top) (start : JobStart) (rest : List Lent) (end : Machine) (ends : Ends code.ops (begun (started code start) top.values) end) (next : Account) (words : List ℕ)
-    (left : with_words next.state words ≡ retires x start (done_of end.run.own end.run.over) (with_words books.state end.world.store)) (running : next.running ≡ length rest) (limit : next.limit ≡ books.limit) (now : Top) (values : now.values ≡ words) where
+module _ (x : Exchange) (code : Code) (k : KeptSummaries) (workers : ℕ) (books : Account) (top : Top) (start : JobStart)
+    (rest : List Lent) (end : Machine) (ends : Ends code.ops (begun (started code start) top.values) end)
+    (next : Account) (words : List ℕ)
+    (left : with_words next.state words ≡ retires x start (done_of end.run.own end.run.over)
+    (with_words books.state end.world.store)) (running : next.running ≡ length rest)
+    (limit : next.limit ≡ books.limit) (now : Top) (values : now.values ≡ words) where
   abbrev last : Account
   last = record next { state = arrived x next.running next.state }
 
   -- the core in which the job has retired is what is shown
   gone_is : (c : Core) (retired : ℕ) → c.state ≡ with_words books.state top.values → c.limit ≡ books.limit → c.retired ≡ retired
-      → lets_go x (record { start = start; run = end.run }) (standing code rest) (at_machine c start (standing code rest) end) ≡ shown code last now rest (retired + 1)
+      → lets_go x (record { start = start; run = end.run }) (standing code rest)
+      (at_machine c start (standing code rest) end) ≡ shown code last now rest (retired + 1)
   gone_is c retired state_is limit_is retired_is =
       let done = done_of end.run.own end.run.over in
       let state : settles x (standing code rest) (retires x start done (record c.state { store = end.world.store })) ≡ with_words last.state now.values =
@@ -93,7 +108,8 @@ module _ (x : Exchange) (code : Code) (k : KeptSummaries) (workers : ℕ) (books
   turn = has_turn k' start top.values end ends
 
   -- the job flew, and retires
-  pub turn_led : (l : Lent) → l.start ≡ start → (made : ℕ) → made ≡ end.run.made → IsLed (setting x code k workers) turn_of books top (l ∷ rest) last now rest made
+  pub turn_led : (l : Lent) → l.start ≡ start → (made : ℕ) → made ≡ end.run.made
+      → IsLed (setting x code k workers) turn_of books top (l ∷ rest) last now rest made
   turn_led l is made made_is = record {
     count = turn.count;
     counted = λ job. made_is ∙ turn.made ∙ ap (λ n. n % 2 ^ 64) (sym (steps_turn turn.count job));
@@ -105,10 +121,13 @@ module _ (x : Exchange) (code : Code) (k : KeptSummaries) (workers : ℕ) (books
 
 -- ## A job runs alone: it is issued, and has its turn at once
 
-pub issue_then_turn : (k : Setting) (books mid next : Account) (top lends now : Top) (loans between left : List Lent) (made : ℕ) → IsIssued k books top loans mid lends between → IsLed k turn_of mid lends between next now left made
+pub issue_then_turn : (k : Setting) (books mid next : Account) (top lends now : Top) (loans between left : List Lent)
+    (made : ℕ) → IsIssued k books top loans mid lends between → IsLed k turn_of mid lends between next now left made
     → IsLed k whole_turn books top loans next now left made
 issue_then_turn k books mid next top lends now loans between left made issue turn = record {
   count = turn.count;
   counted = turn.counted;
-  runs = λ retired. runs_append k (Issue ∷ []) (turn_of turn.count (retired + 1)) (shown k.code books top loans retired) (shown k.code mid lends between retired) (shown k.code next now left (retired + 1)) (issue retired) (turn.runs retired);
+  runs = λ retired. runs_append k (Issue ∷ []) (turn_of turn.count (retired + 1)) (shown k.code books top loans retired)
+      (shown k.code mid lends between retired) (shown k.code next now left (retired + 1)) (issue retired)
+      (turn.runs retired);
 }

@@ -1,5 +1,6 @@
 -- One more job flies.
-use Rattle.std.proofs.Common.{◌≡◌, inl, inr, ℕ, ◌+◌, ◌<◌, Bool, true, false, List, [], ◌∷◌, ◌++◌, length, Some, None, refl, sym, ap, ◌∙◌, subst, arith, if◌then◌else◌}
+use Rattle.std.proofs.Common.{◌≡◌, inl, inr, ℕ, ◌+◌, ◌<◌, Bool, true, false, List, [], ◌∷◌, ◌++◌}
+use Rattle.std.proofs.Common.{length, Some, None, refl, sym, ap, ◌∙◌, subst, arith, if◌then◌else◌}
 use Rattle.std.proofs.lemmas.Bool.{ltb-true}
 use Rattle.std.proofs.lemmas.List.{length-map, map-append}
 use Rattle.std.specs.Prelude.{nat_lt, slice_index}
@@ -43,7 +44,9 @@ use Rattle.parallel_dispatch.proofs.Told.{apart_from}
 pub upcoming_parts : (b : Account) (start : JobStart) → Some start ≡ upcoming b → (b.state.ended + b.running < b.limit) × (next_start b.state ≡ Some start)
 upcoming_parts b start is = by (nat_lt (b.state.ended + b.running) b.limit) refl is
   where
-    by : (t : Bool) → nat_lt (b.state.ended + b.running) b.limit ≡ t → Some start ≡ (if t then next_start b.state else None) → (b.state.ended + b.running < b.limit) × (next_start b.state ≡ Some start)
+    by : (t : Bool) → nat_lt (b.state.ended + b.running) b.limit ≡ t
+        → Some start ≡ (if t then next_start b.state else None)
+        → (b.state.ended + b.running < b.limit) × (next_start b.state ≡ Some start)
     by true lt e = (ltb-true (b.state.ended + b.running) b.limit lt, sym e)
     by false lt e = cc
 
@@ -52,7 +55,8 @@ upcoming_parts b start is = by (nat_lt (b.state.ended + b.running) b.limit) refl
 pub starts_more : (loans : List Lent) (l : Lent) → starts_of (loans ++ l ∷ []) ≡ starts_of loans ++ l.start ∷ []
 starts_more loans l = map-append (λ (o : Lent). o.start) loans (l ∷ [])
 
-pass_more : (k : KeptSummaries) (starts : List JobStart) (start : JobStart) → AllPass k starts → AllByRecursion (λ (older : JobStart). PassBy k older start) starts → AllPass k (starts ++ start ∷ [])
+pass_more : (k : KeptSummaries) (starts : List JobStart) (start : JobStart) → AllPass k starts
+    → AllByRecursion (λ (older : JobStart). PassBy k older start) starts → AllPass k (starts ++ start ∷ [])
 pass_more k [] start all new = (tt, tt)
 pass_more k (a ∷ rest) start all new = (all_append (PassBy k a) rest (start ∷ []) all.0 (new.0, tt), pass_more k rest start all.1 new.1)
 
@@ -67,7 +71,9 @@ within_more limit ended (o ∷ rest) l lt = (let e = long_more rest l in omega (
 -- ## The job is lent its words, and flies
 
 module _ (x : Exchange) (k : KeptSummaries) (kept : IsExchange x) (checked : IsChecked x k) (true_of : AreTrue x k) where
-  ways_of : (s : State) (n : Summary) (start : JobStart) (loans : List Lent) → IsSummaryOf k start n → IsJob x start.job → AllByRecursion (IsLent x k s) loans → AllByRecursion (λ (older : JobStart). PassBy k older start) (starts_of loans)
+  ways_of : (s : State) (n : Summary) (start : JobStart) (loans : List Lent) → IsSummaryOf k start n → IsJob x start.job
+      → AllByRecursion (IsLent x k s) loans → AllByRecursion (λ (older : JobStart). PassBy k older start)
+      (starts_of loans)
       → AllByRecursion (λ (older : JobStart). MakesWay x older start) (starts_of loans)
   ways_of s n start [] told is lent pass = tt
   ways_of s n start (l ∷ rest) told is lent pass = (
@@ -75,7 +81,8 @@ module _ (x : Exchange) (k : KeptSummaries) (kept : IsExchange x) (checked : IsC
     ways_of s n start rest told is lent.1 pass.1,
   )
 
-  module _ (s : State) (books : Account) (top : Top) (loans : List Lent) (fly : Fly x k s books top loans) (start : JobStart) (is : Some start ≡ upcoming books) where
+  module _ (s : State) (books : Account) (top : Top) (loans : List Lent) (fly : Fly x k s books top loans)
+      (start : JobStart) (is : Some start ≡ upcoming books) where
     abbrev starts : List JobStart
     starts = starts_of loans
 
@@ -87,13 +94,16 @@ module _ (x : Exchange) (k : KeptSummaries) (kept : IsExchange x) (checked : IsC
 
     -- the job is one of an entry of the exchange
     pub is_job : IsJob x start.job
-    is_job = (start_fits x (with_words books.state s.store) start (subst (IsValid x) (sym fly.ahead.same) (begun_all_valid x (jobs_of starts) s fly.valid)) next).job
+    is_job = (start_fits x (with_words books.state s.store) start
+        (subst (IsValid x) (sym fly.ahead.same) (begun_all_valid x (jobs_of starts) s fly.valid)) next).job
 
     -- the books have the count of the state
     same_ended : books.state.ended ≡ s.ended
     same_ended = ap (λ (t : State). t.ended) fly.ahead.same
 
-    module _ (n : Summary) (told : IsSummaryOf k start n) (line : NoLineBefore (books.state.ended + length loans + 1) books.state.lines) (pass : AllByRecursion (λ (older : JobStart). PassBy k older start) (starts_of loans)) where
+    module _ (n : Summary) (told : IsSummaryOf k start n)
+        (line : NoLineBefore (books.state.ended + length loans + 1) books.state.lines)
+        (pass : AllByRecursion (λ (older : JobStart). PassBy k older start) (starts_of loans)) where
       grown : AreAhead x s (starts ++ start ∷ []) (begun (with_words books.state s.store))
       grown = ahead_issue x s starts (with_words books.state s.store) start fly.ahead next (ways_of s n start loans told is_job fly.lent pass)
           (subst (λ m. NoLineBefore (books.state.ended + m + 1) books.state.lines) (sym (length-map loans (λ (l : Lent). l.start))) line)
@@ -115,10 +125,12 @@ module _ (x : Exchange) (k : KeptSummaries) (kept : IsExchange x) (checked : IsC
         here = p_is ∙ ap (λ ws. bare (trace_of x start ws)) fly.values
 
         reads_here : (w : ℕ) → may_read p w ≡ true → MayRead x n start s.chains w
-        reads_here = subst (λ (q : Permit). (w : ℕ) → may_read q w ≡ true → MayRead x n start s.chains w) (sym here) (bare_reads x n start s.chains (trace_of x start s.store) permitted)
+        reads_here = subst (λ (q : Permit). (w : ℕ) → may_read q w ≡ true → MayRead x n start s.chains w) (sym here)
+            (bare_reads x n start s.chains (trace_of x start s.store) permitted)
 
         writes_here : (w : ℕ) → may_write p w ≡ true → MayWrite x n start s.chains w
-        writes_here = subst (λ (q : Permit). (w : ℕ) → may_write q w ≡ true → MayWrite x n start s.chains w) (sym here) (bare_writes x n start s.chains (trace_of x start s.store) permitted)
+        writes_here = subst (λ (q : Permit). (w : ℕ) → may_write q w ≡ true → MayWrite x n start s.chains w) (sym here)
+            (bare_writes x n start s.chains (trace_of x start s.store) permitted)
 
         -- the permit is apart from all loans
         pub fits_beside : FitsBeside top.loans p

@@ -15,18 +15,22 @@ use Rattle.parallel_dispatch.specs.Moves.{Flying, IsBare, IsLeft}
 use Rattle.parallel_dispatch.specs.Windows.{View}
 
 -- before a move is made
-pub left_flying : (x : Exchange) (k : KeptSummaries) (store : StoreId) (books : Account) (root : RootView) (w : View) → root.0 ≡ store → Flying x k books root w → IsLeft store root w.loans
+pub left_flying : (x : Exchange) (k : KeptSummaries) (store : StoreId) (books : Account) (root : RootView) (w : View)
+    → root.0 ≡ store → Flying x k books root w → IsLeft store root w.loans
 left_flying x k store books root w home flying = record { home = home; listed = flying.1.listed }
 
 -- the loans are the same
-pub left_same : (store : StoreId) (root now : RootView) (loans left : List Lent) → now.0 ≡ root.0 → now.1.loans ≡ root.1.loans → left ≡ loans → IsLeft store root loans → IsLeft store now left
+pub left_same : (store : StoreId) (root now : RootView) (loans left : List Lent) → now.0 ≡ root.0
+    → now.1.loans ≡ root.1.loans → left ≡ loans → IsLeft store root loans → IsLeft store now left
 left_same store root now loans left home same left_is l = record {
   home = home ∙ l.home;
   listed = subst (λ (z : List Lent × List Lent). (o : Lent) → Has z.0 o → Has z.1 o) (λ i. (sym same i, sym left_is i)) l.listed;
 }
 
 -- one has come back
-pub left_back : (x : Exchange) (code : Code) (store : StoreId) (root now : RootView) (l : Lent) (rest : List Lent) (seat : JobView) (run : Private) → HasRun x code store l seat run → now ≡ (root.0, taken_back root.1 seat.1) → IsLeft store root (l ∷ rest) → IsLeft store now rest
+pub left_back : (x : Exchange) (code : Code) (store : StoreId) (root now : RootView) (l : Lent) (rest : List Lent)
+    (seat : JobView) (run : Private) → HasRun x code store l seat run → now ≡ (root.0, taken_back root.1 seat.1)
+    → IsLeft store root (l ∷ rest) → IsLeft store now rest
 left_back x code store root now l rest seat run has is left = record {
   home = ap (λ (r : RootView). r.0) is ∙ left.home;
   listed = λ o there.
@@ -41,7 +45,9 @@ left_back x code store root now l rest seat run has is left = record {
     by o (inr has) other = has
 
 -- the oldest has come back, and whatever else was done left the loans as they were
-pub left_oldest : (x : Exchange) (code : Code) (store : StoreId) (root now last : RootView) (all : List Lent) (l : Lent) (rest left : List Lent) (seat : JobView) (run : Private) → HasRun x code store l seat run → now ≡ (root.0, taken_back root.1 seat.1) → all ≡ l ∷ rest → IsLeft store root all
+pub left_oldest : (x : Exchange) (code : Code) (store : StoreId) (root now last : RootView) (all : List Lent) (l : Lent)
+    (rest left : List Lent) (seat : JobView) (run : Private) → HasRun x code store l seat run
+    → now ≡ (root.0, taken_back root.1 seat.1) → all ≡ l ∷ rest → IsLeft store root all
     → last.0 ≡ now.0 → last.1.loans ≡ now.1.loans → left ≡ rest → IsLeft store last left
 left_oldest x code store root now last all l rest left seat run has is all_is before home same left_is =
     left_same store now last rest left home same left_is (left_back x code store root now l rest seat run has is (subst (IsLeft store root) all_is before))

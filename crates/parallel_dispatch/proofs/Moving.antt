@@ -1,5 +1,6 @@
 -- The moves, over what the calls leave.
-use Rattle.std.proofs.Common.{◌≡◌, ℕ, zero, suc, ◌+◌, ◌^◌, ◌<◌, ◌≤◌, List, [], ◌∷◌, ◌++◌, length, Option, Some, refl, sym, ap, ◌∙◌, subst, arith}
+use Rattle.std.proofs.Common.{◌≡◌, ℕ, zero, suc, ◌+◌, ◌^◌, ◌<◌, ◌≤◌, List, [], ◌∷◌, ◌++◌, length}
+use Rattle.std.proofs.Common.{Option, Some, refl, sym, ap, ◌∙◌, subst, arith}
 use Rattle.std.specs.Prelude.{slice_get}
 use Rattle.plex_limits.specs.declared.limits.TheConstants.{MOST_JOBS}
 use Rattle.job_types.specs.declared.job.JobStart.{JobStart}
@@ -43,7 +44,8 @@ use Rattle.parallel_dispatch.proofs.Events.{is_issued}
 use Rattle.parallel_dispatch.proofs.Reaching.{retired_led}
 use Rattle.parallel_dispatch.proofs.Told.{all_pass_of}
 use Rattle.parallel_dispatch.proofs.Issuing.{fits_beside, fly_more, for_job, is_job, upcoming_parts}
-use Rattle.parallel_dispatch.proofs.Retiring.{Leaves, back, done_is, fly_fewer, makes, may_write_there, turn_ended}
+use Rattle.parallel_dispatch.proofs.Retiring.{Leaves, back, done_is, fly_fewer, makes}
+use Rattle.parallel_dispatch.proofs.Retiring.{may_write_there, turn_ended}
 
 -- an item of a list is there
 slice_get_there : {A : Type 0} (xs : List A) (i : ℕ) → i < length xs → (x : A) × (slice_get xs i ≡ Some x)
@@ -53,7 +55,9 @@ slice_get_there (x ∷ xs) (suc i) lt = slice_get_there xs i (omega (arith, lt))
 
 -- ## One more flies
 
-module _ (x : Exchange) (k : KeptSummaries) (kept : IsExchange x) (checked : IsChecked x k) (true_of : AreTrue x k) (books : Account) (root : RootView) (w : View) (start : JobStart) (may : MayFly k books w start) (flying : Flying x k books root w) where
+module _ (x : Exchange) (k : KeptSummaries) (kept : IsExchange x) (checked : IsChecked x k) (true_of : AreTrue x k)
+    (books : Account) (root : RootView) (w : View) (start : JobStart) (may : MayFly k books w start)
+    (flying : Flying x k books root w) where
   entry_there : start.job.entry < length x.entries
   entry_there = (is_job x k kept checked true_of flying.0 books root.1 w.loans flying.1 start may.next).entry
 
@@ -70,33 +74,46 @@ module _ (x : Exchange) (k : KeptSummaries) (kept : IsExchange x) (checked : IsC
 
   module _ (n : Summary) (told : IsSummaryOf k start n) (p : Permit) (p_is : p ≡ bare (trace_of x start root.1.values)) where
     pub beside : FitsBeside root.1.loans p
-    beside = fits_beside x k kept checked true_of flying.0 books root.1 w.loans flying.1 start may.next n told may.line (all_pass_of k start (starts_of w.loans) may.pass) p p_is
+    beside = fits_beside x k kept checked true_of flying.0 books root.1 w.loans flying.1 start may.next n told may.line
+        (all_pass_of k start (starts_of w.loans) may.pass) p p_is
 
-    pub ready : (code own : Code) (store : StoreId) (seat : JobView) (run : Private) → own ≡ code → root.0 ≡ store → seat ≡ (root.0, borrower start p root.1) → run ≡ started own start → IsReady x code store seat run
+    pub ready : (code own : Code) (store : StoreId) (seat : JobView) (run : Private) → own ≡ code → root.0 ≡ store
+        → seat ≡ (root.0, borrower start p root.1) → run ≡ started own start → IsReady x code store seat run
     ready code own store seat run code_is home is run_is =
         subst (λ (z : JobView). IsReady x code store z run) (sym is) (record {
           home = home;
           untouched = refl;
           run_is = run_is ∙ ap (λ (c : Code). started c start) code_is;
-          loan = for_job x k kept checked true_of flying.0 books root.1 w.loans flying.1 start may.next n told may.line (all_pass_of k start (starts_of w.loans) may.pass) p p_is;
+          loan = for_job x k kept checked true_of flying.0 books root.1 w.loans flying.1 start may.next n told may.line
+              (all_pass_of k start (starts_of w.loans) may.pass) p p_is;
         })
 
-    pub issued : (s : State) (next : Account) (o : Option JobStart) (now : Top) (loans : List Lent) → Fly x k s books root.1 w.loans → o ≡ upcoming books → next ≡ after_start o books → now ≡ lender start p root.1 → loans ≡ w.loans ++ lent root.1 start p ∷ [] → Fly x k s next now loans
+    pub issued : (s : State) (next : Account) (o : Option JobStart) (now : Top) (loans : List Lent)
+        → Fly x k s books root.1 w.loans → o ≡ upcoming books → next ≡ after_start o books → now ≡ lender start p root.1
+        → loans ≡ w.loans ++ lent root.1 start p ∷ [] → Fly x k s next now loans
     issued s next o now loans fly is next_is now_is loans_are =
         let books_are : next ≡ after_start (Some start) books = next_is ∙ ap (λ u. after_start u books) (is ∙ sym may.next) in
         subst (λ (z : Account × (Top × List Lent)). Fly x k s z.0 z.1.0 z.1.1) (λ i. (sym books_are i, (sym now_is i, sym loans_are i)))
         (fly_more x k kept checked true_of s books root.1 w.loans fly start may.next n told may.line (all_pass_of k start (starts_of w.loans) may.pass) p p_is)
 
     -- it is the event Issue
-    pub issued_event : (code : Code) (next : Account) (o : Option JobStart) (now : Top) (loans : List Lent) → o ≡ upcoming books → next ≡ after_start o books → now ≡ lender start p root.1 → loans ≡ w.loans ++ lent root.1 start p ∷ [] → IsIssued (setting x code k w.room) books root.1 w.loans next now loans
+    pub issued_event : (code : Code) (next : Account) (o : Option JobStart) (now : Top) (loans : List Lent)
+        → o ≡ upcoming books → next ≡ after_start o books → now ≡ lender start p root.1
+        → loans ≡ w.loans ++ lent root.1 start p ∷ []
+        → IsIssued (setting x code k w.room) books root.1 w.loans next now loans
     issued_event code next o now loans is next_is now_is loans_are =
         let books_are : next ≡ after_start (Some start) books = next_is ∙ ap (λ u. after_start u books) (is ∙ sym may.next) in
-        subst (λ (z : Account × (Top × List Lent)). IsIssued (setting x code k w.room) books root.1 w.loans z.0 z.1.0 z.1.1) (λ i. (sym books_are i, (sym now_is i, sym loans_are i)))
+        subst (λ (z : Account × (Top × List Lent)). IsIssued (setting x code k w.room) books root.1 w.loans z.0 z.1.0
+        z.1.1) (λ i. (sym books_are i, (sym now_is i, sym loans_are i)))
         (is_issued x code k w.room books root.1 w.loans start p flying.1.running may.next may.room may.line may.pass)
 
 -- ## The oldest retires
 
-module _ (x : Exchange) (k : KeptSummaries) (kept : IsExchange x) (checked : IsChecked x k) (true_of : AreTrue x k) (books : Account) (top : Top) (w : View) (l : Lent) (rest : List Lent) (loans_are : w.loans ≡ l ∷ rest) (code : Code) (store : StoreId) (seat : JobView) (run : Private) (has : HasRun x code store l seat run) (start : JobStart) (start_is : start ≡ l.start) (done : JobDone) (leaves : Leaves run done) (y : Exchange) (same : y ≡ x) (mid : Top) (mid_is : mid ≡ taken_back top seat.1) where
+module _ (x : Exchange) (k : KeptSummaries) (kept : IsExchange x) (checked : IsChecked x k) (true_of : AreTrue x k)
+    (books : Account) (top : Top) (w : View) (l : Lent) (rest : List Lent) (loans_are : w.loans ≡ l ∷ rest)
+    (code : Code) (store : StoreId) (seat : JobView) (run : Private) (has : HasRun x code store l seat run)
+    (start : JobStart) (start_is : start ≡ l.start) (done : JobDone) (leaves : Leaves run done) (y : Exchange)
+    (same : y ≡ x) (mid : Top) (mid_is : mid ≡ taken_back top seat.1) where
   fly_here : (s : State) → Fly x k s books top w.loans → Fly x k s books top (l ∷ rest)
   fly_here s = subst (Fly x k s books top) loans_are
 
@@ -117,17 +134,29 @@ module _ (x : Exchange) (k : KeptSummaries) (kept : IsExchange x) (checked : IsC
         (λ i. ((sym mid_back i, sym done_here i), (sym start_is i, sym same i)))
         (may_write_there x k kept checked true_of s books top l rest (fly_here s fly))
 
-  module _ (next last : Account) (words : List ℕ) (told now_told : Option (List Touch)) (retired : HasRetired y start done books next mid.values words told now_told) (last_is : last ≡ record next { state = arrived y next.running next.state }) where
+  module _ (next last : Account) (words : List ℕ) (told now_told : Option (List Touch))
+      (retired : HasRetired y start done books next mid.values words told now_told)
+      (last_is : last ≡ record next { state = arrived y next.running next.state }) where
     module _ (s : State) (fly : Fly x k s books top w.loans) where
-      retired_here : with_words next.state words ≡ retires x l.start (done_by (job x l.start s.store)) (with_words books.state (back x k kept checked true_of s books top l rest (fly_here s fly)).values)
+      retired_here : with_words next.state words
+          ≡ retires x l.start (done_by (job x l.start s.store))
+          (with_words books.state (back x k kept checked true_of s books top l rest (fly_here s fly)).values)
       retired_here = retired.state ∙ λ i. retires (same i) (start_is i) (done_here s fly i) (with_words books.state (mid_back s fly i).values)
 
       gone : (now : Top) (left : List Lent) → now.values ≡ words → now.loans ≡ mid.loans → left ≡ rest → Fly x k (turn x s) last now left
       gone now left values loans_same left_is =
-          subst (λ (z : Account × List Lent). Fly x k (turn x s) z.0 now z.1) (λ i. (sym (last_is ∙ ap (λ e. record next { state = arrived e next.running next.state }) same) i, sym left_is i))
-          (fly_fewer x k kept checked true_of s books top l rest (fly_here s fly) next words retired_here retired.running retired.limit now values (loans_same ∙ ap (λ (t : Top). t.loans) (mid_back s fly)))
+          subst (λ (z : Account × List Lent). Fly x k (turn x s) z.0 now z.1)
+          (λ i. (
+            sym (last_is ∙ ap (λ e. record next { state = arrived e next.running next.state }) same) i,
+            sym
+                left_is i,
+          ))
+          (fly_fewer x k kept checked true_of s books top l rest (fly_here s fly) next words retired_here
+          retired.running retired.limit now values (loans_same ∙ ap (λ (t : Top). t.loans) (mid_back s fly)))
 
-    module _ (flying : (s : State) × Fly x k s books top w.loans) (left : Retired) (v : View) (values : left.root.1.values ≡ words) (loans_same : left.root.1.loans ≡ mid.loans) (left_is : v.loans ≡ rest) where
+    module _ (flying : (s : State) × Fly x k s books top w.loans) (left : Retired) (v : View)
+        (values : left.root.1.values ≡ words) (loans_same : left.root.1.loans ≡ mid.loans)
+        (left_is : v.loans ≡ rest) where
       one_ended : last.state.ended ≡ books.state.ended + 1
       one_ended =
           let later = gone flying.0 flying.1 left.root.1 v.loans values loans_same left_is in
@@ -161,11 +190,17 @@ module _ (x : Exchange) (k : KeptSummaries) (kept : IsExchange x) (checked : IsC
       -- its events are those of its instructions, and Retire
       led_then : (workers : ℕ) → left.steps ≡ run.made → IsLed (setting x code k workers) turn_of books top w.loans last left.root.1 v.loans left.steps
       led_then workers made =
-          let led = retired_led x k code workers flying.0 books top l rest (fly_here flying.0 flying.1) store seat run mid has mid_is done leaves next words (retired.state ∙ λ i. retires (same i) (start_is i) done (with_words books.state mid.values)) retired.running retired.limit left.root.1 values left.steps made in
-          let is : last ≡ record next { state = arrived x next.running next.state } = last_is ∙ ap (λ e. record next { state = arrived e next.running next.state }) same in
-          subst (λ (z : List Lent × (Account × List Lent)). IsLed (setting x code k workers) turn_of books top z.0 z.1.0 left.root.1 z.1.1 left.steps) (λ i. (sym loans_are i, (sym is i, sym left_is i))) led
+          let led = retired_led x k code workers flying.0 books top l rest (fly_here flying.0 flying.1) store seat run
+          mid has mid_is done leaves next words
+          (retired.state ∙ λ i. retires (same i) (start_is i) done (with_words books.state mid.values))
+          retired.running retired.limit left.root.1 values left.steps made in
+          let is : last ≡ record next { state = arrived x next.running next.state } = last_is
+          ∙ ap (λ e. record next { state = arrived e next.running next.state }) same in
+          subst (λ (z : List Lent × (Account × List Lent)). IsLed (setting x code k workers) turn_of books top z.0 z.1.0
+          left.root.1 z.1.1 left.steps) (λ i. (sym loans_are i, (sym is i, sym left_is i))) led
 
-      pub turned_then : left.steps ≡ run.made → left.root.0 ≡ store → v.room ≡ w.room → v.flown ≡ w.flown → AreCounted books w → HasTurned x k code store turn_of books top w last left v
+      pub turned_then : left.steps ≡ run.made → left.root.0 ≡ store → v.room ≡ w.room → v.flown ≡ w.flown
+          → AreCounted books w → HasTurned x k code store turn_of books top w last left v
       turned_then made home room flown counted = record {
         led = led_then w.room made;
         fly = λ s fly. gone s fly left.root.1 v.loans values loans_same left_is;

@@ -1,5 +1,6 @@
 -- A job passes with each of several older ones, of which the youngest is asked first.
-use Rattle.std.proofs.Common.{◌≡◌, ℕ, zero, suc, ◌+◌, ◌-◌, ◌<◌, Bool, List, [], ◌∷◌, get_or, length, drop, sym, ap, ◌∙◌, subst, arith}
+use Rattle.std.proofs.Common.{◌≡◌, ℕ, zero, suc, ◌+◌, ◌-◌, ◌<◌, Bool, List, [], ◌∷◌, get_or, length}
+use Rattle.std.proofs.Common.{drop, sym, ap, ◌∙◌, subst, arith}
 use Rattle.std.specs.Prelude.{◌↔◌, IsTrue}
 use Rattle.std.specs.List.{AllByRecursion}
 use Rattle.std.proofs.lemmas.List.{drop_all, drop_more}
@@ -13,7 +14,8 @@ use Rattle.parallel_dispatch.specs.Flying.{starts_of}
 use Rattle.parallel_dispatch.specs.Moves.{FollowsAll, HasSummary}
 
 -- what the tests tell
-pub passes_by : (k : KeptSummaries) (a b : JobStart) (r : Bool) → OfPair k a.job.entry b.job.entry (λ m n. IsTrue r ↔ Passes m n a b) → IsTrue r → MayFollow k a b
+pub passes_by : (k : KeptSummaries) (a b : JobStart) (r : Bool)
+    → OfPair k a.job.entry b.job.entry (λ m n. IsTrue r ↔ Passes m n a b) → IsTrue r → MayFollow k a b
 passes_by k a b r of t = record { one = of.one; other = of.other; of_first = of.of_first; of_later = of.of_later; holds = of.holds.0 t }
 
 -- the job passes with each of the jobs of these loans
@@ -23,7 +25,9 @@ PassAll k later loans = FollowsAll k (starts_of loans) later
 pub passes_begin : (k : KeptSummaries) (later : JobStart) (loans : List Lent) (n : ℕ) → n ≡ length loans → PassAll k later (drop (n - 0) loans)
 passes_begin k later loans n long = subst (PassAll k later) (sym (drop_all (n - 0) loans (omega (arith, long)))) tt
 
-pub passes_more : (k own : KeptSummaries) (later : JobStart) (loans : List Lent) (n i place : ℕ) (l : Lent) → n ≡ length loans → i < n → place ≡ n - 1 - i → l ≡ get_or loans place l → own ≡ k → MayFollow own l.start later → PassAll k later (drop (n - i) loans) → PassAll k later (drop (n - (i + 1)) loans)
+pub passes_more : (k own : KeptSummaries) (later : JobStart) (loans : List Lent) (n i place : ℕ) (l : Lent)
+    → n ≡ length loans → i < n → place ≡ n - 1 - i → l ≡ get_or loans place l → own ≡ k → MayFollow own l.start later
+    → PassAll k later (drop (n - i) loans) → PassAll k later (drop (n - (i + 1)) loans)
 passes_more k own later loans n i place l long lt at is same one all =
     let within : place < length loans = omega (arith, long, lt, at) in
     let here : n - (i + 1) ≡ place = omega (arith, at) in
@@ -35,10 +39,12 @@ pub passes_end : (k : KeptSummaries) (later : JobStart) (loans : List Lent) (n :
 passes_end k later loans n all = (let none : n - n ≡ 0 = omega arith in subst (λ m. PassAll k later (drop m loans)) none all)
 
 -- a summary is kept of each of them
-there_is : (k : KeptSummaries) (loans : List Lent) (place : ℕ) (l : Lent) → place < length loans → l ≡ get_or loans place l → AllByRecursion (HasSummary k) (starts_of loans) → HasSummary k l.start
+there_is : (k : KeptSummaries) (loans : List Lent) (place : ℕ) (l : Lent) → place < length loans
+    → l ≡ get_or loans place l → AllByRecursion (HasSummary k) (starts_of loans) → HasSummary k l.start
 there_is k [] place l within is all = absurd (omega (arith, within))
 there_is k (one ∷ loans) zero l within is all = subst (λ (m : Lent). HasSummary k m.start) (sym is) all.0
 there_is k (one ∷ loans) (suc place) l within is all = there_is k loans place l (omega (arith, within)) is all.1
 
-pub summary_there : (k own : KeptSummaries) (loans : List Lent) (place : ℕ) (l : Lent) → own ≡ k → place < length loans → l ≡ get_or loans place l → AllByRecursion (HasSummary k) (starts_of loans) → HasSummary own l.start
+pub summary_there : (k own : KeptSummaries) (loans : List Lent) (place : ℕ) (l : Lent) → own ≡ k → place < length loans
+    → l ≡ get_or loans place l → AllByRecursion (HasSummary k) (starts_of loans) → HasSummary own l.start
 summary_there k own loans place l same within is all = subst (λ m. HasSummary m l.start) (sym same) (there_is k loans place l within is all)

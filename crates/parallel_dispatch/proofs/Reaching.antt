@@ -1,5 +1,6 @@
 -- The events from the first state on, to the end of the run.
-use Rattle.std.proofs.Common.{◌≡◌, ℕ, suc, ◌+◌, ◌%◌, ◌^◌, ◌<◌, List, [], ◌∷◌, ◌++◌, length, None, Some, refl, sym, ap, ◌∙◌, subst, arith}
+use Rattle.std.proofs.Common.{◌≡◌, ℕ, suc, ◌+◌, ◌%◌, ◌^◌, ◌<◌, List, [], ◌∷◌, ◌++◌, length, None}
+use Rattle.std.proofs.Common.{Some, refl, sym, ap, ◌∙◌, subst, arith}
 use Rattle.job_types.specs.declared.outcome.JobDone.{JobDone}
 use Rattle.job_types.specs.Own.{World, done_of}
 use Rattle.job_types.specs.Touches.{stored}
@@ -52,12 +53,17 @@ use Rattle.parallel_dispatch.proofs.Turning.{runs_append}
 
 -- ## The run of a loan's job, on the root's words
 
--- the job of a loan, which has come back, comes to the same end on the root's words, and leaves them as the root has them then
-pub ends_on_root : (x : Exchange) (k : KeptSummaries) (code : Code) (s : State) (top : Top) (l : Lent) (store : StoreId) (seat : JobView) (run : Private) (mid : Top) → top.values ≡ s.store → IsLent x k s l → HasRun x code store l seat run → mid ≡ taken_back top seat.1 → RunEnds code l.start top.values run mid
+-- the job of a loan, which has come back, comes to the same end on the root's words, and leaves
+-- them as the root has them then
+pub ends_on_root : (x : Exchange) (k : KeptSummaries) (code : Code) (s : State) (top : Top) (l : Lent) (store : StoreId)
+    (seat : JobView) (run : Private) (mid : Top) → top.values ≡ s.store → IsLent x k s l
+    → HasRun x code store l seat run → mid ≡ taken_back top seat.1 → RunEnds code l.start top.values run mid
 ends_on_root x k code s top l store seat run mid values lent has mid_is =
     let same = lent.same in
-    let there : Answers s.store (trace_of x l.start l.base) = agree_answers (trace_of x l.start l.base) l.base s.store same.long same.same (job_told x l.start l.base) in
-    let told : Answers top.values has.end.world.trace = subst (λ ws. Answers ws has.end.world.trace) (sym values) (subst (λ (w : World). Answers s.store w.trace) (sym has.means.world) there) in
+    let there : Answers s.store (trace_of x l.start l.base) = agree_answers (trace_of x l.start l.base) l.base s.store
+    same.long same.same (job_told x l.start l.base) in
+    let told : Answers top.values has.end.world.trace = subst (λ ws. Answers ws has.end.world.trace) (sym values)
+    (subst (λ (w : World). Answers s.store w.trace) (sym has.means.world) there) in
     record {
       end = on_words top.values has.end;
       ends = end_framed code.ops (started code l.start) l.base top.values has.end has.ends told;
@@ -69,15 +75,24 @@ ends_on_root x k code s top l store seat run mid values lent has mid_is =
 
 -- ## The oldest that flies retires
 
-pub retired_led : (x : Exchange) (k : KeptSummaries) (code : Code) (workers : ℕ) (s : State) (books : Account) (top : Top) (l : Lent) (rest : List Lent) → Fly x k s books top (l ∷ rest) → (store : StoreId) (seat : JobView) (run : Private) (mid : Top) → HasRun x code store l seat run → mid ≡ taken_back top seat.1
-    → (done : JobDone) → Leaves run done → (next : Account) (words : List ℕ) → with_words next.state words ≡ retires x l.start done (with_words books.state mid.values) → next.running + 1 ≡ books.running → next.limit ≡ books.limit → (now : Top) → now.values ≡ words → (made : ℕ) → made ≡ run.made
+pub retired_led : (x : Exchange) (k : KeptSummaries) (code : Code) (workers : ℕ) (s : State) (books : Account)
+    (top : Top) (l : Lent) (rest : List Lent) → Fly x k s books top (l ∷ rest)
+    → (store : StoreId) (seat : JobView) (run : Private) (mid : Top) → HasRun x code store l seat run
+    → mid ≡ taken_back top seat.1
+    → (done : JobDone) → Leaves run done → (next : Account) (words : List ℕ)
+    → with_words next.state words ≡ retires x l.start done (with_words books.state mid.values)
+    → next.running + 1 ≡ books.running → next.limit ≡ books.limit → (now : Top) → now.values ≡ words → (made : ℕ)
+    → made ≡ run.made
     → IsLed (setting x code k workers) turn_of books top (l ∷ rest) (record next { state = arrived x next.running next.state }) now rest made
 retired_led x k code workers s books top l rest fly store seat run mid has mid_is done leaves next words left running limit now values made made_is =
     let e = ends_on_root x k code s top l store seat run mid fly.values fly.lent.0 has mid_is in
-    let same : done ≡ done_of e.end.run.own e.end.run.over = done_is run.own run.over done leaves.sends leaves.chain leaves.outcome ∙ ap (λ (r : Private). done_of r.own r.over) e.run_is in
+    let same : done ≡ done_of e.end.run.own e.end.run.over = done_is run.own run.over done leaves.sends leaves.chain
+    leaves.outcome ∙ ap (λ (r : Private). done_of r.own r.over) e.run_is in
     let was = fly.running in
     let count : next.running ≡ length rest = omega (arith, was, running) in
-    turn_led x code k workers books top l.start rest e.end e.ends next words (left ∙ λ i. retires x l.start (same i) (with_words books.state (e.words_are i))) count limit now values l refl made (made_is ∙ ap (λ (r : Private). r.made) e.run_is)
+    turn_led x code k workers books top l.start rest e.end e.ends next words
+    (left ∙ λ i. retires x l.start (same i) (with_words books.state (e.words_are i))) count limit now values l refl
+    made (made_is ∙ ap (λ (r : Private). r.made) e.run_is)
 
 -- ## From move to move
 
@@ -88,18 +103,25 @@ module _ (x : Exchange) (k : KeptSummaries) (code : Code) (workers : ℕ) (first
   abbrev at : Setting
   at = setting x code k workers
 
-  pub reached_issue : (books next : Account) (top now : Top) (loans left : List Lent) (steps : ℕ) → Here books top loans steps → IsIssued at books top loans next now left → next.limit ≡ books.limit → ((s : State) → Fly x k s books top loans → Fly x k s next now left) → Here next now left steps
+  pub reached_issue : (books next : Account) (top now : Top) (loans left : List Lent) (steps : ℕ)
+      → Here books top loans steps → IsIssued at books top loans next now left → next.limit ≡ books.limit
+      → ((s : State) → Fly x k s books top loans → Fly x k s next now left) → Here next now left steps
   reached_issue books next top now loans left steps r issue same fly = record {
     retired = r.retired;
     events = r.events ++ Issue ∷ [];
-    runs = runs_append at r.events (Issue ∷ []) (first_core x first limit) (shown code books top loans r.retired) (shown code next now left r.retired) r.runs (issue r.retired);
-    counted = (let none : steps_in (r.events ++ Issue ∷ []) ≡ steps_in r.events + 0 = steps_append r.events (Issue ∷ []) in let all : steps_in r.events ≡ steps_in (r.events ++ Issue ∷ []) = omega (arith, none) in r.counted ∙ ap (λ n. n % 2 ^ 64) all);
+    runs = runs_append at r.events (Issue ∷ []) (first_core x first limit) (shown code books top loans r.retired)
+        (shown code next now left r.retired) r.runs (issue r.retired);
+    counted = (let none : steps_in (r.events ++ Issue ∷ []) ≡ steps_in r.events
+        + 0 = steps_append r.events (Issue ∷ []) in let all : steps_in r.events
+        ≡ steps_in (r.events ++ Issue ∷ []) = omega (arith, none) in r.counted ∙ ap (λ n. n % 2 ^ 64) all);
     limited = same ∙ r.limited;
     fly = fly (after x first r.retired) r.fly;
     made = r.made;
   }
 
-  pub reached_turn : (events : ℕ → ℕ → List CoreEvent) (books next : Account) (top now : Top) (loans left : List Lent) (steps made total : ℕ) → Here books top loans steps → IsLed at events books top loans next now left made → next.limit ≡ books.limit → ((s : State) → Fly x k s books top loans → Fly x k (turn x s) next now left)
+  pub reached_turn : (events : ℕ → ℕ → List CoreEvent) (books next : Account) (top now : Top) (loans left : List Lent)
+      (steps made total : ℕ) → Here books top loans steps → IsLed at events books top loans next now left made
+      → next.limit ≡ books.limit → ((s : State) → Fly x k s books top loans → Fly x k (turn x s) next now left)
       → ((s : State) → Fly x k s books top loans → JobMakes code s made) → total ≡ (steps + made) % 2 ^ 64 → Here next now left total
   unfolding after
   reached_turn events books next top now loans left steps made total r led same fly makes sum =
@@ -110,7 +132,8 @@ module _ (x : Exchange) (k : KeptSummaries) (code : Code) (workers : ℕ) (first
         retired = suc r.retired;
         events = r.events ++ more;
         runs = subst (λ n. Runs at (r.events ++ more) (first_core x first limit) (shown code next now left n)) one
-            (runs_append at r.events more (first_core x first limit) (shown code books top loans r.retired) (shown code next now left (r.retired + 1)) r.runs (led.runs r.retired));
+            (runs_append at r.events more (first_core x first limit) (shown code books top loans r.retired)
+            (shown code next now left (r.retired + 1)) r.runs (led.runs r.retired));
         counted = sum ∙ sum_made r.events more steps made r.counted (led.counted (r.retired + 1));
         limited = same ∙ r.limited;
         fly = fly s r.fly;
@@ -146,11 +169,14 @@ module _ (x : Exchange) (k : KeptSummaries) (code : Code) (workers : ℕ) (first
     }
 
     -- none flies, and the run is over
-    pub reached_ended : (books : Account) (top : Top) (e : Ending) (steps : ℕ) → Some e ≡ ending_at books.limit books.state → Here books top [] steps → EndsAs x code first limit books.state top.values e steps
+    pub reached_ended : (books : Account) (top : Top) (e : Ending) (steps : ℕ)
+        → Some e ≡ ending_at books.limit books.state → Here books top [] steps
+        → EndsAs x code first limit books.state top.values e steps
     reached_ended books top e steps is r =
         let c = shown code books top [] r.retired in
         let pairs = pairs_give x k kept checked in
-        let f = went_runs x kept code faithful k pairs first workers r.events (first_core x first limit) c begins (went_first x kept code faithful k pairs first (first_core x first limit) refl refl) r.runs in
+        let f = went_runs x kept code faithful k pairs first workers r.events (first_core x first limit) c begins
+        (went_first x kept code faithful k pairs first (first_core x first limit) refl refl) r.runs in
         let end = run_ends x kept code faithful k pairs first c e f.0 f.1 refl (sym is) in
         let at_end : jobs_at_end x limit first ≡ r.retired = ap (λ n. jobs_at_end x n first) (sym r.limited) ∙ end.1 in
         record {
@@ -160,16 +186,21 @@ module _ (x : Exchange) (k : KeptSummaries) (code : Code) (workers : ℕ) (first
         }
 
     -- none flies, and the run may rest
-    pub reached_rests : (books : Account) (top : Top) (steps : ℕ) → Here books top [] steps → (run : Standing) → run.books ≡ books → run.words ≡ top.values → IsOnTheWay x first limit run
+    pub reached_rests : (books : Account) (top : Top) (steps : ℕ) → Here books top [] steps → (run : Standing)
+        → run.books ≡ books → run.words ≡ top.values → IsOnTheWay x first limit run
     reached_rests books top steps r run books_are words_are =
         let c = shown code books top [] r.retired in
         let pairs = pairs_give x k kept checked in
-        let f = went_runs x kept code faithful k pairs first workers r.events (first_core x first limit) c begins (went_first x kept code faithful k pairs first (first_core x first limit) refl refl) r.runs in
+        let f = went_runs x kept code faithful k pairs first workers r.events (first_core x first limit) c begins
+        (went_first x kept code faithful k pairs first (first_core x first limit) refl refl) r.runs in
         let same : c.state ≡ after x first r.retired = (follows_single_run x kept code faithful k pairs first c f.0).empty refl in
-        let goes : (n : ℕ) → n < r.retired → ending_at limit (after x first n) ≡ None = λ n less. ap (λ m. ending_at m (after x first n)) (sym r.limited) ∙ f.1.goes_on n (omega (arith, less)) in
+        let goes : (n : ℕ) → n < r.retired → ending_at limit (after x first n)
+        ≡ None = λ n less. ap (λ m. ending_at m (after x first n)) (sym r.limited)
+        ∙ f.1.goes_on n (omega (arith, less)) in
         let there : IsOnTheWay x first limit (record { books = books; words = top.values }) = record {
           limited = r.limited;
           may = record { nobody = r.fly.running; valid = subst (IsValid x) (sym same) (after_valid x kept first r.retired valid) };
-          leads = λ s words e runs. rests x first limit r.retired goes s words e (subst (λ (z : State × ℕ). RunsTo x z.0 z.1 s words e) (λ i. (same i, r.limited i)) runs);
+          leads = λ s words e runs. rests x first limit r.retired goes s words e
+              (subst (λ (z : State × ℕ). RunsTo x z.0 z.1 s words e) (λ i. (same i, r.limited i)) runs);
         } in
         subst (λ (z : Account × List ℕ). IsOnTheWay x first limit (record { books = z.0; words = z.1 })) (λ i. (sym books_are i, sym words_are i)) there

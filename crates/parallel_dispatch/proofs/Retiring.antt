@@ -1,5 +1,6 @@
 -- The oldest job retires.
-use Rattle.std.proofs.Common.{◌≡◌, ◌≢◌, inl, inr, ℕ, ◌+◌, ◌≤◌, List, [], ◌∷◌, length, Some, None, refl, sym, ap, ◌∙◌, subst, arith}
+use Rattle.std.proofs.Common.{◌≡◌, ◌≢◌, inl, inr, ℕ, ◌+◌, ◌≤◌, List, [], ◌∷◌, length, Some, None}
+use Rattle.std.proofs.Common.{refl, sym, ap, ◌∙◌, subst, arith}
 use Rattle.std.specs.List.{AllByRecursion}
 use Rattle.job_types.specs.declared.job.JobStart.{JobStart}
 use Rattle.job_types.specs.declared.outcome.JobDone.{JobDone}
@@ -57,7 +58,8 @@ pub record Leaves (run : Private) (done : JobDone) : Type 0 where
   pub chain : done.chain ≡ run.own.chain
   pub outcome : Some done.outcome ≡ run.over
 
-module _ (x : Exchange) (k : KeptSummaries) (kept : IsExchange x) (checked : IsChecked x k) (true_of : AreTrue x k) (s : State) (books : Account) (top : Top) (l : Lent) (rest : List Lent) (fly : Fly x k s books top (l ∷ rest)) where
+module _ (x : Exchange) (k : KeptSummaries) (kept : IsExchange x) (checked : IsChecked x k) (true_of : AreTrue x k)
+    (s : State) (books : Account) (top : Top) (l : Lent) (rest : List Lent) (fly : Fly x k s books top (l ∷ rest)) where
   abbrev a : JobStart
   a = l.start
 
@@ -74,7 +76,8 @@ module _ (x : Exchange) (k : KeptSummaries) (kept : IsExchange x) (checked : IsC
   -- ## The end of the job
 
   -- what the run leaves is what the job leaves in the single run
-  pub done_is : (code : Code) (store : StoreId) (seat : JobView) (run : Private) (left : JobDone) → HasRun x code store l seat run → Leaves run left → left ≡ done
+  pub done_is : (code : Code) (store : StoreId) (seat : JobView) (run : Private) (left : JobDone)
+      → HasRun x code store l seat run → Leaves run left → left ≡ done
   done_is code store seat run left has leaves =
       let own = same_own x k s l fly.lent.0 in
       let over = same_over x k s l fly.lent.0 in
@@ -83,7 +86,8 @@ module _ (x : Exchange) (k : KeptSummaries) (kept : IsExchange x) (checked : IsC
       let outcome = ap outcome_of (leaves.outcome ∙ ap (λ (r : Private). r.over) has.run_is ∙ has.means.over ∙ sym over) in
       λ i. record { sends = sends i; chain = chain i; outcome = outcome i }
 
-  -- how many instructions it made is told by the run on the words of the loan, which answer to the job as those of the state do
+  -- how many instructions it made is told by the run on the words of the loan, which answer to the
+  -- job as those of the state do
   pub makes : (code : Code) (store : StoreId) (seat : JobView) (run : Private) → HasRun x code store l seat run → JobMakes code s run.made
   makes code store seat run has =
       let same = fly.lent.0.same in
@@ -123,9 +127,12 @@ module _ (x : Exchange) (k : KeptSummaries) (kept : IsExchange x) (checked : IsC
   may_write_there =
       let few = kept.limited.cells in
       free_stores back (retired_world x a done books.state back.values).trace
-      (may_store x back.values (retired_world x a done books.state back.values).trace whole (omega (arith, few)) (retired_inside x kept s books.state a back.values fly.valid all_fit.0 chains_same))
+      (may_store x back.values (retired_world x a done books.state back.values).trace whole (omega (arith, few))
+      (retired_inside x kept s books.state a back.values fly.valid all_fit.0 chains_same))
       (λ o has. let here = back_listed o has in
-      aside x k kept checked s fly.valid true_of l o fly.lent.0 (of_loan (IsLent x k s) rest o fly.lent.1 here) all_fit.0 (of_start (IsFitting x s) rest o all_fit.1 here) (of_start (PassBy k a) rest o fly.pass.0 here) books.state back.values)
+      aside x k kept checked s fly.valid true_of l o fly.lent.0 (of_loan (IsLent x k s) rest o fly.lent.1 here)
+      all_fit.0 (of_start (IsFitting x s) rest o all_fit.1 here) (of_start (PassBy k a) rest o fly.pass.0 here)
+      books.state back.values)
 
   -- ## It has retired
 
@@ -138,11 +145,13 @@ module _ (x : Exchange) (k : KeptSummaries) (kept : IsExchange x) (checked : IsC
       ∙ (arrivals_keep x (ended_as x a (job x a s.store) (begun s))).ended
       ∙ (end_keeps x a (job x a s.store) (begun s)).ended
 
-  lent_then : (os : List Lent) → AllByRecursion (IsLent x k s) os → AllByRecursion (IsFitting x s) (starts_of os) → AllByRecursion (PassBy k a) (starts_of os) → AllByRecursion (IsLent x k (turn x s)) os
+  lent_then : (os : List Lent) → AllByRecursion (IsLent x k s) os → AllByRecursion (IsFitting x s) (starts_of os)
+      → AllByRecursion (PassBy k a) (starts_of os) → AllByRecursion (IsLent x k (turn x s)) os
   lent_then [] lent fit pass = tt
   lent_then (o ∷ os) lent fit pass =
       let keep = arrivals_keep x (ended_as x a (job x a s.store) (begun s)) in (
-        lent_stays x k kept checked s fly.valid true_of l o fly.lent.0 lent.0 all_fit.0 fit.0 pass.0 (turn x s) (ap (λ (t : State). t.store) turn_is ∙ keep.store) (ap (λ (t : State). t.chains) turn_is ∙ keep.chains),
+        lent_stays x k kept checked s fly.valid true_of l o fly.lent.0 lent.0 all_fit.0 fit.0 pass.0 (turn x s)
+            (ap (λ (t : State). t.store) turn_is ∙ keep.store) (ap (λ (t : State). t.chains) turn_is ∙ keep.chains),
         lent_then os lent.1 fit.1 pass.1,
       )
 
@@ -154,11 +163,14 @@ module _ (x : Exchange) (k : KeptSummaries) (kept : IsExchange x) (checked : IsC
   pub goes_before : ending_at books.limit s ≡ None
   goes_before = (let le = fly.within in goes_on books.limit s a (window_next x s fly.valid a (starts_of rest) fly.ahead.window) (omega (arith, le)))
 
-  module _ (next : Account) (words : List ℕ) (retired : with_words next.state words ≡ retires x a done (with_words books.state back.values)) (running : next.running + 1 ≡ books.running) (limit : next.limit ≡ books.limit) where
+  module _ (next : Account) (words : List ℕ) (retired : with_words next.state words
+      ≡ retires x a done (with_words books.state back.values)) (running : next.running + 1 ≡ books.running)
+      (limit : next.limit ≡ books.limit) where
     ahead_back : AreAhead x s (a ∷ starts_of rest) (with_words books.state back.values)
     ahead_back = ahead_words x s (a ∷ starts_of rest) (with_words books.state s.store) back.values fly.ahead
 
-    settled : (os : List Lent) → os ≡ rest → settles x a done (starts_of os) (with_words books.state back.values) ≡ with_words (arrived x (length os) next.state) words
+    settled : (os : List Lent) → os ≡ rest → settles x a done (starts_of os) (with_words books.state back.values)
+        ≡ with_words (arrived x (length os) next.state) words
     settled [] is = ap (arrivals x) (sym retired) ∙ arrivals_over x next.state words
     settled (o ∷ os) is = sym retired
 
@@ -166,7 +178,8 @@ module _ (x : Exchange) (k : KeptSummaries) (kept : IsExchange x) (checked : IsC
     settled_here = settled rest refl
 
     ahead_then : AreAhead x (turn x s) (starts_of rest) (with_words (arrived x (length rest) next.state) words)
-    ahead_then = subst (AreAhead x (turn x s) (starts_of rest)) settled_here (ahead_retire x s fly.valid a (starts_of rest) (with_words books.state back.values) ahead_back)
+    ahead_then = subst (AreAhead x (turn x s) (starts_of rest)) settled_here
+        (ahead_retire x s fly.valid a (starts_of rest) (with_words books.state back.values) ahead_back)
 
     words_are : words ≡ (turn x s).store
     words_are =
@@ -178,11 +191,14 @@ module _ (x : Exchange) (k : KeptSummaries) (kept : IsExchange x) (checked : IsC
     count : next.running ≡ length rest
     count = (let was = fly.running in omega (arith, was, running))
 
-    pub fly_fewer : (root : Top) → root.values ≡ words → root.loans ≡ back.loans → Fly x k (turn x s) (record next { state = arrived x next.running next.state }) root rest
+    pub fly_fewer : (root : Top) → root.values ≡ words → root.loans ≡ back.loans
+        → Fly x k (turn x s) (record next { state = arrived x next.running next.state }) root rest
     fly_fewer root values loans = record {
       valid = turn_valid x kept s fly.valid;
       values = values ∙ words_are;
-      ahead = ahead_words x (turn x s) (starts_of rest) (with_words (arrived x next.running next.state) words) (turn x s).store (subst (λ n. AreAhead x (turn x s) (starts_of rest) (with_words (arrived x n next.state) words)) (sym count) ahead_then);
+      ahead = ahead_words x (turn x s) (starts_of rest) (with_words (arrived x next.running next.state) words)
+          (turn x s).store (subst (λ n. AreAhead x (turn x s) (starts_of rest)
+          (with_words (arrived x n next.state) words)) (sym count) ahead_then);
       running = count;
       within = subst (λ m. AreWithin m (turn x s).ended rest) (sym limit) (within_then books.limit rest fly.within);
       lent = lent_then rest fly.lent.1 all_fit.1 fly.pass.0;

@@ -1,5 +1,6 @@
 -- From the first state of the run to its end.
-use Rattle.std.proofs.Common.{◌≡◌, ℕ, zero, suc, ◌+◌, ◌<◌, false, List, [], ◌∷◌, length, Option, Some, None, refl, sym, ap, ◌∙◌, subst, arith}
+use Rattle.std.proofs.Common.{◌≡◌, ℕ, zero, suc, ◌+◌, ◌<◌, false, List, [], ◌∷◌, length, Option}
+use Rattle.std.proofs.Common.{Some, None, refl, sym, ap, ◌∙◌, subst, arith}
 use Rattle.std.proofs.lemmas.Bool.{or_parts}
 use Rattle.std.proofs.lemmas.Bool.Decides.{nat_tests}
 use Rattle.std.proofs.lemmas.Option.{none-some, slice_get_within}
@@ -19,7 +20,8 @@ use Rattle.exchange_model.specs.Cells.{cell_count}
 use Rattle.exchange_model.specs.Kept.{IsExchange}
 use Rattle.source_meaning.specs.Arrivals.{arrivals}
 use Rattle.source_meaning.specs.Job.{job}
-use Rattle.source_meaning.specs.SingleRun.{Ending, after, begun, ended_as, ending_at, jobs_at_end, next_start}
+use Rattle.source_meaning.specs.SingleRun.{Ending, after, begun, ended_as, ending_at, jobs_at_end}
+use Rattle.source_meaning.specs.SingleRun.{next_start}
 use Rattle.source_meaning.specs.State.{State, has_stopped}
 use Rattle.source_meaning.specs.Valid.{IsValid}
 use Rattle.source_meaning.proofs.Retiring.{after_valid}
@@ -56,13 +58,16 @@ settled_after x first (suc n) going = by (next_start (after x first n)) (settled
     Settled : State → Type 0
     Settled t = has_stopped t ≡ false → NoneDue t.lines t
 
-    by : (o : Option JobStart) → Settled (after x first n) → Settled (option_map_or (λ (a : JobStart). arrivals x (ended_as x a (job x a (after x first n).store) (begun (after x first n)))) o (after x first n))
+    by : (o : Option JobStart) → Settled (after x first n)
+        → Settled (option_map_or (λ (a : JobStart). arrivals x
+        (ended_as x a (job x a (after x first n).store) (begun (after x first n)))) o (after x first n))
     by None before = before
     by (Some a) before = due_none x (ended_as x a (job x a (after x first n).store) (begun (after x first n)))
 
 module _ (x : Exchange) (k : KeptSummaries) (code : Code) (kept : IsExchange x) (checked : IsChecked x k) (true_of : AreTrue x k) (workers limit : ℕ) where
   -- before the first job
-  pub stand_begin : (old books : Account) (top : Top) → top ≡ unlent top.values → old.running ≡ 0 → old.limit ≡ limit → IsValid x (with_words old.state top.values)
+  pub stand_begin : (old books : Account) (top : Top) → top ≡ unlent top.values → old.running ≡ 0 → old.limit ≡ limit
+      → IsValid x (with_words old.state top.values)
       → books ≡ record old { state = arrivals x old.state } → IsReached x k code workers (with_words old.state top.values) limit books top [] 0
   unfolding after Runs
   stand_begin old books top bare none same valid is =
@@ -71,8 +76,10 @@ module _ (x : Exchange) (k : KeptSummaries) (code : Code) (kept : IsExchange x) 
       let here : IsReached x k code workers first limit now top [] 0 = record {
         retired = 0;
         events = [];
-        runs = ap (λ (t : State). record { state = t; limit = old.limit; window = []; retired = 0 }) (sym (arrivals_over x old.state top.values)) ∙ ap (first_core x first) same;
-        fly = fly_none x k (arrivals x first) now top (after_valid x kept first 0 valid) (sym (arrivals_over x old.state top.values)) none (ap (λ (t : Top). t.loans) bare);
+        runs = ap (λ (t : State). record { state = t; limit = old.limit; window = []; retired = 0 })
+            (sym (arrivals_over x old.state top.values)) ∙ ap (first_core x first) same;
+        fly = fly_none x k (arrivals x first) now top (after_valid x kept first 0 valid)
+            (sym (arrivals_over x old.state top.values)) none (ap (λ (t : Top). t.loans) bare);
         counted = refl;
         limited = same;
         made = NoJob;
@@ -81,27 +88,35 @@ module _ (x : Exchange) (k : KeptSummaries) (code : Code) (kept : IsExchange x) 
 
   module _ (first : State) (books : Account) (top : Top) where
     -- none flies, and the run goes on: a job is next, and no line is due before it
-    pub stand_next : (steps : ℕ) → ending_at books.limit books.state ≡ None → IsReached x k code workers first limit books top [] steps → (start : JobStart) × (upcoming books ≡ Some start)
+    pub stand_next : (steps : ℕ) → ending_at books.limit books.state ≡ None
+        → IsReached x k code workers first limit books top [] steps → (start : JobStart) × (upcoming books ≡ Some start)
     stand_next steps goes g =
         let none : books.running ≡ 0 = g.fly.running in
         let some = some_start books.state books.limit goes in
         (some.0, upcoming_is books none goes ∙ some.1)
 
     -- so the window is not empty where none is next that may fly
-    pub stand_some : (loans : List Lent) (steps : ℕ) → (loans ≡ [] → ending_at books.limit books.state ≡ None) → (loans ≡ [] → None ≡ upcoming books) → IsReached x k code workers first limit books top loans steps → 0 < length loans
+    pub stand_some : (loans : List Lent) (steps : ℕ) → (loans ≡ [] → ending_at books.limit books.state ≡ None)
+        → (loans ≡ [] → None ≡ upcoming books) → IsReached x k code workers first limit books top loans steps
+        → 0 < length loans
     stand_some [] steps goes none g = let some = stand_next steps (goes refl) g in absurd (none-some some.0 (none refl ∙ some.1))
     stand_some (l ∷ rest) steps goes none g = omega arith
 
-    pub stand_line : (loans : List Lent) (steps : ℕ) → (loans ≡ [] → ending_at books.limit books.state ≡ None) → IsReached x k code workers first limit books top loans steps → loans ≡ [] → NoLineBefore (books.state.ended + 1) books.state.lines
+    pub stand_line : (loans : List Lent) (steps : ℕ) → (loans ≡ [] → ending_at books.limit books.state ≡ None)
+        → IsReached x k code workers first limit books top loans steps → loans ≡ []
+        → NoLineBefore (books.state.ended + 1) books.state.lines
     stand_line [] steps goes g is =
         let s = after x first g.retired in
         let same = state_is x k s books top g.fly in
         let going : has_stopped s ≡ false = ap has_stopped (sym same) ∙ (goes_on books.limit books.state (goes refl)).runs in
-        due_before books.state.lines (with_words books.state top.values) (subst (λ (t : State). NoneDue t.lines t) (sym same) (settled_after x first g.retired going))
+        due_before books.state.lines (with_words books.state top.values)
+        (subst (λ (t : State). NoneDue t.lines t) (sym same) (settled_after x first g.retired going))
     stand_line (l ∷ rest) steps goes g is = cc
 
     -- a summary is kept of each job
-    pub next_summary : (loans : List Lent) (start : JobStart) (steps : ℕ) → IsReached x k code workers first limit books top loans steps → Some start ≡ upcoming books → HasSummary k start
+    pub next_summary : (loans : List Lent) (start : JobStart) (steps : ℕ)
+        → IsReached x k code workers first limit books top loans steps → Some start ≡ upcoming books
+        → HasSummary k start
     next_summary loans start steps g is =
         let entry = (is_job x k kept checked true_of (after x first g.retired) books top loans g.fly start is).entry in
         let each = checked.by_facts.each_entry in
@@ -116,7 +131,9 @@ module _ (x : Exchange) (k : KeptSummaries) (code : Code) (kept : IsExchange x) 
     none_lent steps g = (let bare = bare_of x k (after x first g.retired) books top g.fly in λ i. record { values = top.values; loans = bare i })
 
 -- in the end there is a word for each cell
-pub words_at_end : (x : Exchange) (code : Code) (first : State) (limit : ℕ) (books : State) (words : List ℕ) (e : Ending) (steps : ℕ) → IsExchange x → IsValid x first → EndsAs x code first limit books words e steps → length words ≡ cell_count x.blocks
+pub words_at_end : (x : Exchange) (code : Code) (first : State) (limit : ℕ) (books : State) (words : List ℕ)
+    (e : Ending) (steps : ℕ) → IsExchange x → IsValid x first → EndsAs x code first limit books words e steps
+    → length words ≡ cell_count x.blocks
 words_at_end x code first limit books words e steps kept valid ends =
     let there : IsValid x (after x first (jobs_at_end x limit first)) = after_valid x kept first (jobs_at_end x limit first) valid in
     ap (λ (s : State). length s.store) ends.state ∙ there.store.whole ∙ kept.numbered.cells

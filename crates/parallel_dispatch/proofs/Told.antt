@@ -1,5 +1,7 @@
--- What the summaries that are kept tell of two jobs in one state, and of the later one where the first has had its turn.
-use Rattle.std.proofs.Common.{◌≡◌, ℕ, zero, suc, ◌+◌, true, List, [], ◌∷◌, ◌++◌, refl, sym, ap, ◌∙◌, subst}
+-- What the summaries that are kept tell of two jobs in one state, and of the later one where the
+-- first has had its turn.
+use Rattle.std.proofs.Common.{◌≡◌, ℕ, zero, suc, ◌+◌, true, List, [], ◌∷◌, ◌++◌, refl, sym, ap, ◌∙◌}
+use Rattle.std.proofs.Common.{subst}
 use Rattle.std.proofs.lemmas.Option.{same_Some}
 use Rattle.std.specs.List.{AllByRecursion}
 use Rattle.std.proofs.lemmas.Bool.{false_from_ne_true}
@@ -32,7 +34,9 @@ use Rattle.checked.specs.Kept.{IsChecked, KeptSummaries}
 use Rattle.order_laws.specs.Windows.{done_by}
 use Rattle.pair_laws.specs.Orders.{KeepsTo, retirement_touches}
 use Rattle.pair_laws.specs.Pairs.{IsDoneBy, IsFaulted, LeavesChains, MayRunAtOnce}
-use Rattle.pair_laws.proofs.Apart.{chains_left, first_alone, reads_apart, reads_stay, release_apart, retired_store, retirement_apart, some_forlopp, writes_apart, writes_stay}
+use Rattle.pair_laws.proofs.Apart.{chains_left, first_alone, reads_apart, reads_stay, release_apart}
+use Rattle.pair_laws.proofs.Apart.{retired_store, retirement_apart, some_forlopp, writes_apart}
+use Rattle.pair_laws.proofs.Apart.{writes_stay}
 use Rattle.pair_laws.proofs.Leaving.{job_leaves}
 use Rattle.pair_laws.proofs.Touching.{no_store_append, touched_read}
 use Rattle.run_books.specs.Retired.{outcome_world, retired_world}
@@ -49,7 +53,9 @@ passes_of k a b of = record {
       (subst (λ u. Passes of.one u a b) (same_Some of.other n (sym of.of_later ∙ other)) of.holds);
 }
 
-pub all_pass_of : (k : KeptSummaries) (start : JobStart) (starts : List JobStart) → AllByRecursion (λ (older : JobStart). MayFollow k older start) starts → AllByRecursion (λ (older : JobStart). PassBy k older start) starts
+pub all_pass_of : (k : KeptSummaries) (start : JobStart) (starts : List JobStart)
+    → AllByRecursion (λ (older : JobStart). MayFollow k older start) starts
+    → AllByRecursion (λ (older : JobStart). PassBy k older start) starts
 all_pass_of k start [] all = tt
 all_pass_of k start (a ∷ rest) all = (passes_of k a start all.0, all_pass_of k start rest all.1)
 
@@ -58,7 +64,8 @@ agree_then ts r s t p q = record { long = p.long ∙ q.long; same = λ w at. p.s
 
 -- the job over the words of a loan is the job over these words
 module _ (x : Exchange) (k : KeptSummaries) (s : State) (l : Lent) (lent : IsLent x k s l) where
-  job_there : job x l.start s.store ≡ record (job x l.start l.base) { world = record (job x l.start l.base).world { store = stored s.store (trace_of x l.start l.base) } }
+  job_there : job x l.start s.store ≡ record (job x l.start l.base)
+      { world = record (job x l.start l.base).world { store = stored s.store (trace_of x l.start l.base) } }
   job_there = job_agrees x l.start l.base s.store lent.same
 
   pub same_trace : trace_of x l.start s.store ≡ trace_of x l.start l.base
@@ -71,7 +78,8 @@ module _ (x : Exchange) (k : KeptSummaries) (s : State) (l : Lent) (lent : IsLen
   same_over = ap (λ (c : Config). c.over) job_there
 
 module _ (x : Exchange) (k : KeptSummaries) (kept : IsExchange x) (checked : IsChecked x k) (s : State) (valid : IsValid x s) where
-  pub at_once : (m n : Summary) (a b : JobStart) → IsFitting x s a → IsFitting x s b → IsSummaryOf k a m → IsSummaryOf k b n → PassBy k a b → MayRunAtOnce x checked.facts s m n a b
+  pub at_once : (m n : Summary) (a b : JobStart) → IsFitting x s a → IsFitting x s b → IsSummaryOf k a m
+      → IsSummaryOf k b n → PassBy k a b → MayRunAtOnce x checked.facts s m n a b
   at_once m n a b fits_a fits_b told_a told_b pass = record {
     exchange = kept;
     state = valid;
@@ -83,16 +91,22 @@ module _ (x : Exchange) (k : KeptSummaries) (kept : IsExchange x) (checked : IsC
   }
 
   -- a permit is apart from that of a loan, where the loan's job passes with the job of the permit
-  pub apart_from : (l : Lent) (n : Summary) (b : JobStart) (p : Permit) → IsLent x k s l → IsFitting x s l.start → IsFitting x s b → IsSummaryOf k b n → PassBy k l.start b
+  pub apart_from : (l : Lent) (n : Summary) (b : JobStart) (p : Permit) → IsLent x k s l → IsFitting x s l.start
+      → IsFitting x s b → IsSummaryOf k b n → PassBy k l.start b
       → ((w : ℕ) → may_read p w ≡ true → MayRead x n b s.chains w) → ((w : ℕ) → may_write p w ≡ true → MayWrite x n b s.chains w) → Apart l.permit p
   apart_from l n b p lent fits_l fits_b told pass reads writes w =
       let h = at_once lent.summary n l.start b fits_l fits_b lent.told told pass in (
-        λ written. false_from_ne_true (may_read p w) (λ read. writes_apart x checked.facts s lent.summary n l.start b h w (lent.writes w written) (reads w read)),
-        λ written. false_from_ne_true (may_read l.permit w) (λ read. reads_apart x checked.facts s lent.summary n l.start b h w (lent.reads w read) (writes w written)),
+        λ written. false_from_ne_true (may_read p w)
+            (λ read. writes_apart x checked.facts s lent.summary n l.start b h w (lent.writes w written)
+            (reads w read)),
+        λ written. false_from_ne_true (may_read l.permit w)
+            (λ read. reads_apart x checked.facts s lent.summary n l.start b h w (lent.reads w read) (writes w written)),
       )
 
   -- the job of one loan has its turn: what that leaves to the loan of a later one
-  module _ (true_of : AreTrue x k) (l later : Lent) (first : IsLent x k s l) (lent : IsLent x k s later) (fits_l : IsFitting x s l.start) (fits_later : IsFitting x s later.start) (pass : PassBy k l.start later.start) where
+  module _ (true_of : AreTrue x k) (l later : Lent) (first : IsLent x k s l) (lent : IsLent x k s later)
+      (fits_l : IsFitting x s l.start) (fits_later : IsFitting x s later.start)
+      (pass : PassBy k l.start later.start) where
     abbrev a : JobStart
     a = l.start
 
@@ -123,8 +137,10 @@ module _ (x : Exchange) (k : KeptSummaries) (kept : IsExchange x) (checked : IsC
     alone : LeavesAlone (trace_of x a s.store ++ retirement_touches x done) (trace_of x b s.store)
     alone w at =
         no_store_append w (trace_of x a s.store) (retirement_touches x done)
-        (first_alone x checked.facts s first.summary lent.summary a b h (trace_of x a s.store) (trace_of x b s.store) keeps_first.touches keeps_later.touches w at)
-        (retirement_apart x checked.facts s first.summary lent.summary a b done h left w (touched_read x lent.summary b s.chains (trace_of x b s.store) w keeps_later.touches at))
+        (first_alone x checked.facts s first.summary lent.summary a b h (trace_of x a s.store) (trace_of x b s.store)
+        keeps_first.touches keeps_later.touches w at)
+        (retirement_apart x checked.facts s first.summary lent.summary a b done h left w
+        (touched_read x lent.summary b s.chains (trace_of x b s.store) w keeps_later.touches at))
 
     words : (retires x a done mid).store ≡ stored s.store (trace_of x a s.store ++ retirement_touches x done)
     words =
@@ -132,24 +148,39 @@ module _ (x : Exchange) (k : KeptSummaries) (kept : IsExchange x) (checked : IsC
         ∙ ap (λ ws. stored ws (retirement_touches x done)) (job_store x a s.store)
         ∙ sym (stored-append (trace_of x a s.store) (retirement_touches x done) s.store)
 
-    pub lent_stays : (t : State) → t.store ≡ (ended_as x a (job x a s.store) (begun s)).store → t.chains ≡ (ended_as x a (job x a s.store) (begun s)).chains → IsLent x k t later
+    pub lent_stays : (t : State) → t.store ≡ (ended_as x a (job x a s.store) (begun s)).store
+        → t.chains ≡ (ended_as x a (job x a s.store) (begun s)).chains → IsLent x k t later
     lent_stays t store_is chains_are =
-        let agree : AgreeOn (trace_of x b s.store) s.store t.store = subst (AgreeOn (trace_of x b s.store) s.store) (sym (store_is ∙ words)) (left_alone (trace_of x a s.store ++ retirement_touches x done) (trace_of x b s.store) s.store alone) in
+        let agree : AgreeOn (trace_of x b s.store) s.store t.store = subst (AgreeOn (trace_of x b s.store) s.store)
+        (sym (store_is ∙ words)) (left_alone (trace_of x a s.store ++ retirement_touches x done)
+        (trace_of x b s.store) s.store alone) in
         record {
           summary = lent.summary;
           told = lent.told;
-          same = agree_then (trace_of x b later.base) later.base s.store t.store lent.same (subst (λ ts. AgreeOn ts s.store t.store) (same_trace x k s later lent) agree);
-          reads = λ w may. subst (λ m. MayRead x lent.summary b m w) (sym chains_are) ((reads_stay x checked.facts s first.summary lent.summary a b (retires x a done mid).chains h chains w).0 (lent.reads w may));
-          writes = λ w may. subst (λ m. MayWrite x lent.summary b m w) (sym chains_are) ((writes_stay x checked.facts s first.summary lent.summary a b (retires x a done mid).chains h chains w).0 (lent.writes w may));
+          same = agree_then (trace_of x b later.base) later.base s.store t.store lent.same
+              (subst (λ ts. AgreeOn ts s.store t.store) (same_trace x k s later lent) agree);
+          reads = λ w may. subst (λ m. MayRead x lent.summary b m w) (sym chains_are)
+              ((reads_stay x checked.facts s first.summary lent.summary a b (retires x a done mid).chains h chains w).0
+              (lent.reads w may));
+          writes = λ w may. subst (λ m. MayWrite x lent.summary b m w) (sym chains_are)
+              ((writes_stay x checked.facts s first.summary lent.summary a b (retires x a done mid).chains h chains w).0
+              (lent.writes w may));
         }
 
-    aside_by : (f : ℕ) (o : Outcome) (t : State) (over : List ℕ) (w : ℕ) → f ≡ a.job.forlopp → done.outcome ≡ o → MayRead x lent.summary b s.chains w → NoStore w (outcome_world x f o (keeps_chain f done.chain t) (untouched over)).trace
+    aside_by : (f : ℕ) (o : Outcome) (t : State) (over : List ℕ) (w : ℕ) → f ≡ a.job.forlopp → done.outcome ≡ o
+        → MayRead x lent.summary b s.chains w → NoStore w
+        (outcome_world x f o (keeps_chain f done.chain t) (untouched over)).trace
     aside_by f Ended t over w is how reads = tt
-    aside_by zero (Faulted f point) t over w is how reads = absurd (some_forlopp x checked.facts s first.summary lent.summary a b h (left.fault (subst IsFaulted (sym how) tt)) (sym is))
+    aside_by zero (Faulted f point) t over w is how reads = absurd
+        (some_forlopp x checked.facts s first.summary lent.summary a b h (left.fault (subst IsFaulted (sym how) tt))
+        (sym is))
     aside_by (suc n) (Faulted f point) t over w is how reads =
         subst (λ chain. NoStore w (release_world x chain (untouched over)).trace) (sym (chain_same t.chains (suc n) done.chain))
-        (release_apart x checked.facts s first.summary lent.summary a b h (left.fault (subst IsFaulted (sym how) tt)) done.chain over w left.records left.held reads)
+        (release_apart x checked.facts s first.summary lent.summary a b h (left.fault (subst IsFaulted (sym how) tt))
+        done.chain over w left.records left.held reads)
 
-    -- its retirement stores to no word of the later one's permit, whatever the books and the words are
+    -- its retirement stores to no word of the later one's permit, whatever the books and the words
+    -- are
     pub aside : (t : State) (over : List ℕ) (w : ℕ) → may_read later.permit w ≡ true → NoStore w (retired_world x a done t over).trace
-    aside t over w may = aside_by a.job.forlopp done.outcome (all_delivered a.job.forlopp done.sends (record t { ended = t.ended + 1 })) over w refl refl (lent.reads w may)
+    aside t over w may = aside_by a.job.forlopp done.outcome
+        (all_delivered a.job.forlopp done.sends (record t { ended = t.ended + 1 })) over w refl refl (lent.reads w may)

@@ -1,11 +1,14 @@
--- Lists of events, one list after the other; and the events by which the oldest job comes to its end and retires.
-use Rattle.std.proofs.Common.{◌≡◌, ℕ, suc, ◌+◌, ◌%◌, ◌^◌, List, [], ◌∷◌, ◌++◌, Some, refl, sym, ap, ◌∙◌, subst, slice_get, arith}
+-- Lists of events, one list after the other; and the events by which the oldest job comes to its
+-- end and retires.
+use Rattle.std.proofs.Common.{◌≡◌, ℕ, suc, ◌+◌, ◌%◌, ◌^◌, List, [], ◌∷◌, ◌++◌, Some, refl, sym, ap}
+use Rattle.std.proofs.Common.{◌∙◌, subst, slice_get, arith}
 use Rattle.std.proofs.lemmas.Option.{get_or_from_slice_get}
 use Rattle.job_types.specs.declared.job.JobStart.{JobStart}
 use Rattle.machine_code.specs.declared.op.Op.{Op}
 use Rattle.machine_code.specs.declared.op.Op.TheVariants.{End}
 use Rattle.machine_meaning.specs.Faithful.{Ends, begun, started}
-use Rattle.machine_meaning.specs.Machine.{Goes, Machine, by_op, here, machine_step, reach, untouched}
+use Rattle.machine_meaning.specs.Machine.{Goes, Machine, by_op, here, machine_step, reach}
+use Rattle.machine_meaning.specs.Machine.{untouched}
 use Rattle.job_run.proofs.Stopping.{step_store}
 use Rattle.interleave_core.specs.declared.event.CoreEvent.{CoreEvent}
 use Rattle.interleave_core.specs.declared.event.CoreEvent.TheVariants.{Retire}
@@ -38,11 +41,13 @@ stepped_core k c start younger op m at =
     ap (λ (o : Op). at_machine c start younger (machine_step o (record { run = m.run; world = untouched m.world.store }))) is
     ∙ ap (λ ws. at_machine c start younger (record { run = (machine_step op m).run; world = untouched ws })) (step_store (reach op m.run) m.world)
 
--- the machine goes to its end by so many events, whatever core the job is the oldest of, and counts as many instructions more
+-- the machine goes to its end by so many events, whatever core the job is the oldest of, and counts
+-- as many instructions more
 pub record GoesBySteps (k : Setting) (m end : Machine) : Type 0 where
   pub count : ℕ
   pub made : (n : ℕ) → m.run.made ≡ n % 2 ^ 64 → end.run.made ≡ (n + count) % 2 ^ 64
-  pub runs : (c : Core) (start : JobStart) (younger : List WindowJob) → Runs k (so_many_steps count (c.retired + 1)) (at_machine c start younger m) (at_machine c start younger end)
+  pub runs : (c : Core) (start : JobStart) (younger : List WindowJob)
+      → Runs k (so_many_steps count (c.retired + 1)) (at_machine c start younger m) (at_machine c start younger end)
 
 pub goes_by_steps : (k : Setting) (m end : Machine) → Goes k.code.ops m end → GoesBySteps k m end
 unfolding Runs
@@ -58,21 +63,24 @@ goes_by_steps k m end (by_op op running at allowed more) =
       made = λ n is. (let more : n + 1 + rest.count ≡ n + suc rest.count = omega arith in rest.made (n + 1) (step_made op m n is) ∙ ap (λ a. a % 2 ^ 64) more);
       runs = λ c start younger. (
         record { place = 0; job = record { start = start; run = m.run }; numbered = omega arith; there = refl; runs = running },
-        subst (λ (d : Core). Runs k (so_many_steps rest.count (c.retired + 1)) d (at_machine c start younger end)) (sym (stepped_core k c start younger op m at)) (rest.runs c start younger),
+        subst (λ (d : Core). Runs k (so_many_steps rest.count (c.retired + 1)) d (at_machine c start younger end))
+            (sym (stepped_core k c start younger op m at)) (rest.runs c start younger),
       );
     }
 
 -- ## The oldest job has its turn
 
--- from a core of these words in which the oldest job stands at this start, these events lead to the core in which it has retired, which
--- had come to this end, with as many instructions as are among them
+-- from a core of these words in which the oldest job stands at this start, these events lead to the
+-- core in which it has retired, which had come to this end, with as many instructions as are among
+-- them
 pub record HasTurn (k : Setting) (start : JobStart) (words : List ℕ) (end : Machine) : Type 0 where
   pub count : ℕ
   pub made : end.run.made ≡ count % 2 ^ 64
   pub runs : (c : Core) (younger : List WindowJob) → c.window ≡ record { start = start; run = started k.code start } ∷ younger → c.state.store ≡ words
       → Runs k (turn_of count (c.retired + 1)) c (lets_go k.exchange (record { start = start; run = end.run }) younger (at_machine c start younger end))
 
-pub has_turn : (k : Setting) (start : JobStart) (words : List ℕ) (end : Machine) → Ends k.code.ops (begun (started k.code start) words) end → HasTurn k start words end
+pub has_turn : (k : Setting) (start : JobStart) (words : List ℕ) (end : Machine)
+    → Ends k.code.ops (begun (started k.code start) words) end → HasTurn k start words end
 has_turn k start words end ends =
     let first = begun (started k.code start) words in
     let steps = goes_by_steps k first end ends.goes in
@@ -83,7 +91,8 @@ has_turn k start words end ends =
           let here : c ≡ at_machine c start younger first = λ i. record c { state = record c.state { store = store i }; window = is i } in
           let there = at_machine c start younger end in
           let can : CanRetire there = record { oldest = record { start = start; run = end.run }; younger = younger; first = refl; over = ends.over } in
-          runs_append k (so_many_steps steps.count (c.retired + 1)) (Retire ∷ []) c there (lets_go k.exchange (record { start = start; run = end.run }) younger there)
+          runs_append k (so_many_steps steps.count (c.retired + 1)) (Retire ∷ []) c there
+          (lets_go k.exchange (record { start = start; run = end.run }) younger there)
           (subst (λ (o : Core). Runs k (so_many_steps steps.count (c.retired + 1)) o there) (sym here) (steps.runs c start younger))
           (runs_one k there Retire can);
     }

@@ -16,16 +16,19 @@ use Rattle.parallel_dispatch.specs.Events.{IsReached}
 use Rattle.parallel_dispatch.specs.Moves.{AreCounted}
 use Rattle.parallel_dispatch.specs.Windows.{View}
 
--- the books, the root of the store, the jobs that fly, and how many instructions the runs of those that retired made
+-- the books, the root of the store, the jobs that fly, and how many instructions the runs of those
+-- that retired made
 pub record DeskView : Type 0 where
   pub books : Account
   pub root : RootView
   pub window : View
   pub steps : ℕ
 
--- what the type of the desk keeps: from the first state events lead, each as it is allowed, to the state of the core that books, root and
--- loans are, in which each loaned job stands at its start
-pub record IsDesk (x : Exchange) (k : KeptSummaries) (code : Code) (store : StoreId) (workers : ℕ) (first : State) (limit : ℕ) (books : Account) (root : RootView) (window : View) (steps : ℕ) : Type 0 where
+-- what the type of the desk keeps: from the first state events lead, each as it is allowed, to the
+-- state of the core that books, root and loans are, in which each loaned job stands at its start
+pub record IsDesk (x : Exchange) (k : KeptSummaries) (code : Code) (store : StoreId) (workers : ℕ)
+    (first : State) (limit : ℕ) (books : Account) (root : RootView) (window : View)
+    (steps : ℕ) : Type 0 where
   pub reached : IsReached x k code workers first limit books root.1 window.loans steps
   pub home : root.0 ≡ store
   pub room : window.room ≡ workers
@@ -38,7 +41,8 @@ GoesOn books w = w.loans ≡ [] → ending_at books.limit books.state ≡ None
 
 -- how the run ends, if none flies and it does
 abbrev pub TellsEnd : Account → View → Option Ending → Type 0
-TellsEnd books w ended = MatchOption ended (GoesOn books w) (λ e. (w.loans ≡ []) × (Some (ending_of e) ≡ ending_at books.limit books.state))
+TellsEnd books w ended = MatchOption ended (GoesOn books w)
+    (λ e. (w.loans ≡ []) × (Some (ending_of e) ≡ ending_at books.limit books.state))
 
 -- what stands where no course is named
 abbrev pub no_kept : KeptSummaries

@@ -1,5 +1,5 @@
--- Jobs that fly: they were lent their words and have not retired. They stand beside a state of the single run, the one in which the
--- oldest of them is next, and are a window of it.
+-- Jobs that fly: they were lent their words and have not retired. They stand beside a state of the
+-- single run, the one in which the oldest of them is next, and are a window of it.
 use Rattle.std.specs.Prelude.{◌≡◌, ℕ, ◌+◌, ◌≤◌, true, List, [], ◌∷◌, length, map}
 use Rattle.std.specs.List.{AllByRecursion}
 use Rattle.job_types.specs.declared.job.JobStart.{JobStart}
@@ -22,8 +22,8 @@ use Rattle.parallel_dispatch.specs.Told.{IsSummaryOf, PassBy}
 abbrev pub starts_of : List Lent → List JobStart
 starts_of loans = map (λ (l : Lent). l.start) loans
 
--- the loan of a job in this state: the words that the job touches are still as they were lent, and the permit lets touch no more than
--- the summary of its entry lets the job touch in this state
+-- the loan of a job in this state: the words that the job touches are still as they were lent, and
+-- the permit lets touch no more than the summary of its entry lets the job touch in this state
 pub record IsLent (x : Exchange) (k : KeptSummaries) (s : State) (l : Lent) : Type 0 where
   pub summary : Summary
   pub told : IsSummaryOf k l.start summary
@@ -41,9 +41,10 @@ abbrev pub AreWithin : ℕ → ℕ → List Lent → Type 0
 AreWithin limit ended [] = Unit {0}
 AreWithin limit ended (l ∷ rest) = ended + length (l ∷ rest) ≤ limit
 
--- the jobs of these loans, the oldest first, have begun in the books, and their words are lent by the root: books and root are those
--- of this state of the single run
-pub record Fly (x : Exchange) (k : KeptSummaries) (s : State) (books : Account) (top : Top) (loans : List Lent) : Type 0 where
+-- the jobs of these loans, the oldest first, have begun in the books, and their words are lent by
+-- the root: books and root are those of this state of the single run
+pub record Fly (x : Exchange) (k : KeptSummaries) (s : State) (books : Account) (top : Top)
+    (loans : List Lent) : Type 0 where
   pub valid : IsValid x s
   pub values : top.values ≡ s.store
   pub ahead : AreAhead x s (starts_of loans) (with_words books.state s.store)

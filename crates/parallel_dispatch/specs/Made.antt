@@ -8,7 +8,8 @@ use Rattle.source_meaning.specs.State.{State}
 use Rattle.machine_meaning.specs.Faithful.{Ends, begun, started}
 use Rattle.machine_meaning.specs.Machine.{Machine}
 
--- the run of this start by the code, alone on these words, makes so many instructions to its end, modulo 2^64
+-- the run of this start by the code, alone on these words, makes so many instructions to its end,
+-- modulo 2^64
 pub record RunMakes (code : Code) (start : JobStart) (words : List ℕ) (made : ℕ) : Type 0 where
   pub end : Machine
   pub ends : Ends code.ops (begun (started code start) words) end
@@ -20,7 +21,9 @@ pub record JobMakes (code : Code) (s : State) (made : ℕ) : Type 0 where
   pub next : next_start s ≡ Some start
   pub runs : RunMakes code start s.store made
 
--- so many jobs of the single run from this first state make so many instructions in all, modulo 2^64
+-- so many jobs of the single run from this first state make so many instructions in all, modulo
+-- 2^64
 pub data AllMake (x : Exchange) (code : Code) (first : State) : ℕ → ℕ → Type 0 where
   NoJob : AllMake x code first 0 0
-  OneMore : (n total made : ℕ) → AllMake x code first n total → JobMakes code (after x first n) made → AllMake x code first (suc n) ((total + made) % 2 ^ 64)
+  OneMore : (n total made : ℕ) → AllMake x code first n total → JobMakes code (after x first n) made
+      → AllMake x code first (suc n) ((total + made) % 2 ^ 64)

@@ -20,7 +20,9 @@ pub record PassBy (k : KeptSummaries) (a b : JobStart) : Type 0 where
 
 -- every job keeps to its summary, and where two jobs pass, the first makes way to the later one
 pub record AreTrue (x : Exchange) (k : KeptSummaries) : Type 0 where
-  pub keeps : (s : State) (m : Summary) (start : JobStart) → IsValid x s → IsFitting x s start → IsSummaryOf k start m
+  pub keeps : (s : State) (m : Summary) (start : JobStart) → IsValid x s → IsFitting x s start
+      → IsSummaryOf k start m
       → KeepsTo x s m start
-  pub ways : (m n : Summary) (a b : JobStart) → IsSummaryOf k a m → IsSummaryOf k b n → IsJob x b.job → Passes m n a b
+  pub ways : (m n : Summary) (a b : JobStart) → IsSummaryOf k a m → IsSummaryOf k b n
+      → IsJob x b.job → Passes m n a b
       → MakesWay x a b

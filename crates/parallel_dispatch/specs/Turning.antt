@@ -1,4 +1,5 @@
--- The events by which the oldest job of a window, which stands at its start, comes to its end and retires.
+-- The events by which the oldest job of a window, which stands at its start, comes to its end and
+-- retires.
 use Rattle.std.specs.Prelude.{ℕ, zero, suc, List, [], ◌∷◌, ◌++◌}
 use Rattle.job_types.specs.declared.job.JobStart.{JobStart}
 use Rattle.machine_meaning.specs.Machine.{Machine}

@@ -47,9 +47,15 @@ impl<B: Course> Model for Desk<B> {
 
     ghost coded = { Prim.hlevel (codes, chains_code, dead_code) };
 
-    ghost view = { λ d. record { books = d.books.value; root = d.root; window = d.window; steps = d.steps } };
+    ghost view = { λ d. record {
+      books = d.books.value;
+      root = d.root;
+      window = d.window;
+      steps = d.steps;
+    } };
 
-    ghost invariant = { λ d. IsDesk B.exchange B.kept B.code B.store B.workers B.first B.limit d.books.value d.root d.window d.steps };
+    ghost invariant = { λ d. IsDesk B.exchange B.kept B.code B.store B.workers B.first B.limit
+        d.books.value d.root d.window d.steps };
 }
 
 impl<B: Course + Send + Sync> Desk<B> {

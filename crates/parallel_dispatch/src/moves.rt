@@ -1,6 +1,7 @@
 // The moves of the dispatcher: the next job runs alone, or it flies, or the oldest that flies
 // retires.
-ghost use Rattle.std.specs.Prelude.{◌≡◌, ◌+◌, ◌<◌, [], length, Some, None, IsTrue, OnOk, OnErr, IfOk, IfErr};
+ghost use Rattle.std.specs.Prelude.{◌≡◌, ◌+◌, ◌<◌, [], length, Some, None, IsTrue, OnOk, OnErr};
+ghost use Rattle.std.specs.Prelude.{IfOk, IfErr};
 ghost use Rattle.std.specs.List.{AllByRecursion};
 ghost use Rattle.job_types.specs.declared.job.JobStart.{JobStart as StartType};
 ghost use Rattle.order_laws.specs.Keeps.{NoLineBefore};
@@ -10,7 +11,9 @@ ghost use Rattle.worker_pool.specs.Ways.{AreMeans};
 ghost use Rattle.parallel_dispatch.specs.Flying.{starts_of};
 ghost use Rattle.parallel_dispatch.specs.Events.{whole_turn};
 ghost use Rattle.parallel_dispatch.specs.Turning.{turn_of};
-ghost use Rattle.parallel_dispatch.specs.Moves.{CountsOne, HasIssued, HasSummary, HasTurned, IsBare, IsLeft, MayIssue, MayMove, MayRunAlone, StandBeside, Suits};
+ghost use Rattle.parallel_dispatch.specs.Moves.{CountsOne, HasIssued, HasSummary, HasTurned};
+ghost use Rattle.parallel_dispatch.specs.Moves.{IsBare, IsLeft, MayIssue, MayMove, MayRunAlone};
+ghost use Rattle.parallel_dispatch.specs.Moves.{StandBeside, Suits};
 
 use crate::course::Course;
 use crate::hall::Hall;

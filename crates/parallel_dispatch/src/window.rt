@@ -1,5 +1,6 @@
 // The jobs that fly, in the order of the single run.
-ghost use Rattle.std.specs.Prelude.{◌≡◌, ◌+◌, ◌<◌, ◌^◌, ◌∷◌, ◌++◌, [], length, IsTrue, IfOk, MatchOption};
+ghost use Rattle.std.specs.Prelude.{◌≡◌, ◌+◌, ◌<◌, ◌^◌, ◌∷◌, ◌++◌, [], length, IsTrue, IfOk};
+ghost use Rattle.std.specs.Prelude.{MatchOption};
 ghost use Rattle.std.specs.List.{AllByRecursion};
 ghost use Rattle.job_runner.specs.Runs.{IsReady};
 ghost use Rattle.machine_meaning.specs.Faithful.{Faithful};
@@ -71,7 +72,11 @@ impl<B: Naming> Model for Window<B> {
 
     ghost Value = { View };
 
-    ghost view = { λ w. record { loans = w.flying.items; room = deque_capacity w.flying; flown = w.pen.1 } };
+    ghost view = { λ w. record {
+      loans = w.flying.items;
+      room = deque_capacity w.flying;
+      flown = w.pen.1;
+    } };
 
     ghost invariant = { λ w. w.pen.0 ≡ B.book };
 }

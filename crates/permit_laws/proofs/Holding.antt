@@ -1,5 +1,7 @@
--- Which records a job comes to hold, and which marks it may find open: a record that is free, or that the job may have freed.
-use Rattle.std.proofs.Common.{◌≡◌, ◌⊎◌, inl, inr, ⊎_elim, ℕ, true, false, List, [], ◌∷◌, ◌++◌, length, sym, ◌∙◌, subst, arith}
+-- Which records a job comes to hold, and which marks it may find open: a record that is free, or
+-- that the job may have freed.
+use Rattle.std.proofs.Common.{◌≡◌, ◌⊎◌, inl, inr, ⊎_elim, ℕ, true, false, List, [], ◌∷◌, ◌++◌}
+use Rattle.std.proofs.Common.{length, sym, ◌∙◌, subst, arith}
 use Rattle.std.specs.List.{Contains}
 use Rattle.std.specs.Prelude.{slice_index, slice_set}
 use Rattle.std.proofs.lemmas.Bool.{cases_Bool}
@@ -51,7 +53,9 @@ module _ (x : Exchange) (kept : IsExchange x) (m : Summary) (start : JobStart) (
   Holds held words = HoldsOwn x m start chains held words
 
   -- words other than marks change
-  pub holds_on : (store words : List ℕ) → ((file number : ℕ) (p : Placed) → HasMark x file number p → slice_index words (mark_cell p number) ≡ slice_index store (mark_cell p number)) → Holds chain store → Holds chain words
+  pub holds_on : (store words : List ℕ) → ((file number : ℕ) (p : Placed) → HasMark x file number p
+      → slice_index words (mark_cell p number) ≡ slice_index store (mark_cell p number)) → Holds chain store
+      → Holds chain words
   holds_on store words same h = record { held = h.held; opened = λ file number p has none. h.opened file number p has (sym (same file number p has) ∙ none) }
 
   module _ (f n : ℕ) (put : Placed) (has : HasMark x f n put) where
@@ -59,7 +63,9 @@ module _ (x : Exchange) (kept : IsExchange x) (m : Summary) (start : JobStart) (
     pub holds_seized : (store : List ℕ) → length store ≡ x.cells → Contains m.accesses (Seizes f) → slice_index store (mark_cell put n) ≡ 0 → Holds chain store
         → Holds (chain ++ record { file = f; number = n } ∷ []) (slice_set store (mark_cell put n) 1)
     holds_seized store whole seizes none h = record {
-      held = λ file number more. ⊎_elim (h.held file number) (λ new. taken file number (record_is file number (record { file = f; number = n }) new)) (holds_more chain (record { file = f; number = n }) file number more);
+      held = λ file number more. ⊎_elim (h.held file number)
+          (λ new. taken file number (record_is file number (record { file = f; number = n }) new))
+          (holds_more chain (record { file = f; number = n }) file number more);
       opened = λ file number p at zero_is. mark_put x kept store f n 1 put has whole file number p at (λ w. w ≡ 0 → MayBeOpen m start chains file number)
           (λ same_file same_number one. absurd (omega arith)) (h.opened file number p at) zero_is;
     }
@@ -71,10 +77,16 @@ module _ (x : Exchange) (kept : IsExchange x) (m : Summary) (start : JobStart) (
         taken file number same = subst (λ k. MayHave m start chains k number) same.0 (subst (MayHave m start chains f) same.1 itself)
 
     -- a record of the chain leaves it, and is opened
-    pub holds_freed : (w : World) → length w.store ≡ x.cells → Contains m.accesses (Frees f) → holds chain f n ≡ true → Holds chain w.store → Holds (without chain f n) (opens_record put n w).store
+    pub holds_freed : (w : World) → length w.store ≡ x.cells → Contains m.accesses (Frees f) → holds chain f n ≡ true
+        → Holds chain w.store → Holds (without chain f n) (opens_record put n w).store
     holds_freed w whole frees mine h = record {
       held = λ file number less. h.held file number (holds_before chain f n file number less);
       opened = λ file number p at zero_is. opened_other x kept f n put w has whole file number p at (λ v. v ≡ 0 → MayBeOpen m start chains file number)
-          (λ same_file same_number gone. inr (subst (λ k. Contains m.accesses (Frees k)) same_file frees, subst (λ k. MayHave m start chains k number) same_file (subst (MayHave m start chains f) same_number (h.held f n mine))))
+          (λ same_file same_number gone. inr (
+            subst (λ k. Contains m.accesses (Frees k)) same_file frees,
+            subst
+                (λ k. MayHave m start chains k number) same_file
+                (subst (MayHave m start chains f) same_number (h.held f n mine)),
+          ))
           (h.opened file number p at) zero_is;
     }

@@ -12,7 +12,10 @@ use Rattle.entry_summary.specs.Summaries.{sends, IsSummary}
 use Rattle.permit_laws.specs.Permitted.{IsToLevel}
 use Rattle.permit_laws.proofs.Telling.{told_level}
 
-pub posting_level : (x : Exchange) (P : Facts) (e : ℕ) (m : Summary) → IsSummary x P e m → (c : Config) (deed : Deed) (rest : List Item) (to : SendTo) (vs : List ℕ) → DeedStands x c.block deed rest → Reached P e (deed_point deed) → IsPosting x c deed to vs → IsToLevel m to
+pub posting_level : (x : Exchange) (P : Facts) (e : ℕ) (m : Summary) → IsSummary x P e m
+    → (c : Config) (deed : Deed) (rest : List Item) (to : SendTo) (vs : List ℕ) → DeedStands x c.block deed rest
+    → Reached P e (deed_point deed) → IsPosting x c deed to vs → IsToLevel m to
 posting_level x P e m summary c deed rest to vs at reached (to_queue p signal receiver values fresh name level count b ws kind is) =
-    told_level x P e m summary c.block p (stmt.Send signal receiver values fresh) rest at reached level (sends signal receiver values fresh name level count kind)
+    told_level x P e m summary c.block p (stmt.Send signal receiver values fresh) rest at reached level
+    (sends signal receiver values fresh name level count kind)
 posting_level x P e m summary c deed rest to vs at reached (to_outside p signal receiver values fresh name count b ws kind is) = tt

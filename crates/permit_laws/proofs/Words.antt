@@ -13,7 +13,8 @@ use Rattle.flow_points.specs.declared.fact.Value.TheVariants.{Arg, Const, Any}
 use Rattle.entry_summary.specs.declared.summary.Access.{Access}
 use Rattle.entry_summary.specs.declared.summary.Summary.{Summary}
 use Rattle.entry_summary.specs.Numbers.{variable_number, field_number}
-use Rattle.start_permit.specs.Granted.{OneOf, IsVariableWord, IsOfField, IsOfMark, Selects, Does, HasWord, Lets}
+use Rattle.start_permit.specs.Granted.{OneOf, IsVariableWord, IsOfField, IsOfMark, Selects, Does}
+use Rattle.start_permit.specs.Granted.{HasWord, Lets}
 use Rattle.fact_laws.specs.Covers.{StandsFor}
 
 -- the record for which a value stands is the one that it selects
@@ -23,11 +24,13 @@ selects values (Const c) number h = h
 selects values Any number h = tt
 
 module _ (x : Exchange) where
-  pub variable_word : (b v : ℕ) (k : Block) → slice_get x.blocks b ≡ Some k → v < length k.variables → IsVariableWord x (variable_number x b v) (base_of x b + v)
+  pub variable_word : (b v : ℕ) (k : Block) → slice_get x.blocks b ≡ Some k → v < length k.variables
+      → IsVariableWord x (variable_number x b v) (base_of x b + v)
   unfolding base_of
   variable_word b v k there lt = record { block = b; index = v; owner = k; there = there; within = lt; numbered = refl; is = refl }
 
-  pub field_word : (Chosen : ℕ → ℕ → Type 0) (file number field : ℕ) (p : Placed) → IsRecordOf x file number p → field < length p.file.fields → Chosen file number
+  pub field_word : (Chosen : ℕ → ℕ → Type 0) (file number field : ℕ) (p : Placed) → IsRecordOf x file number p
+      → field < length p.file.fields → Chosen file number
       → IsOfField x (field_number x file field) Chosen (field_cell p number field)
   field_word Chosen file number field p at lt chosen = record {
     file = file;
@@ -36,8 +39,14 @@ module _ (x : Exchange) where
     of_record = record { number = number; below = at.within; chosen = chosen; is = refl };
   }
 
-  pub mark_word : (Chosen : ℕ → Type 0) (file number : ℕ) (p : Placed) → IsRecordOf x file number p → Chosen number → IsOfMark x file Chosen (mark_cell p number)
-  mark_word Chosen file number p at chosen = record { placed = p; there = at.there; of_record = record { number = number; below = at.within; chosen = chosen; is = refl } }
+  pub mark_word : (Chosen : ℕ → Type 0) (file number : ℕ) (p : Placed) → IsRecordOf x file number p → Chosen number
+      → IsOfMark x file Chosen (mark_cell p number)
+  mark_word Chosen file number p at chosen = record {
+    placed = p;
+    there = at.there;
+    of_record = record
+        { number = number; below = at.within; chosen = chosen; is = refl };
+  }
 
   module _ (m : Summary) (start : JobStart) (chains : ChainMap) (write : Bool) where
     -- some access of the summary lets the job write the word, or read it

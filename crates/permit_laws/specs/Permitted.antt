@@ -1,5 +1,6 @@
--- What a job stays within, by the summary of its entry, its start, and the chains of all forlopps as it starts: the words that it
--- may touch, the records that it may hold, and the levels to which it may send.
+-- What a job stays within, by the summary of its entry, its start, and the chains of all forlopps
+-- as it starts: the words that it may touch, the records that it may hold, and the levels to which
+-- it may send.
 use Rattle.std.specs.Prelude.{◌≡◌, ℕ, true, List}
 use Rattle.std.specs.List.{AllByRecursion, Contains}
 use Rattle.job_types.specs.declared.chain.Held.{Held}

@@ -14,10 +14,11 @@ ghost use Rattle.source_meaning.specs.State.{State};
 ghost use Rattle.source_meaning.specs.Traces.{trace_of};
 ghost use Rattle.source_meaning.specs.Valid.{IsFitting, IsValid};
 
-/// A job that begins in a valid state touches only words that its permit lets it touch: it loads words that it may read, and
-/// stores to words that it may write. The permit is that of its start and the chains of that state, by the summary of its entry
-/// from facts that are closed. So it is after any number of steps, and of the whole job. The summary from the least facts, which
-/// are closed, is such a one.
+/// A job that begins in a valid state touches only words that its permit lets it touch: it loads
+/// words that it may read, and stores to words that it may write. The permit is that of its start
+/// and the chains of that state, by the summary of its entry from facts that are closed. So it is
+/// after any number of steps, and of the whole job. The summary from the least facts, which are
+/// closed, is such a one.
 pub fn touches_are_permitted()
     ensures steps { (x : Exchange) (facts : List Fact) (m : Summary) (s : State) (start : JobStart)
         (n : ℕ)
@@ -34,8 +35,8 @@ pub fn touches_are_permitted()
         → ArePermitted x m start s.chains (after_steps n x (begins x start s.store)).world.trace }
 {}
 
-/// Each record that the job holds is one that it may hold: it stood in the chain with which the job began, or it was free then
-/// and is of a file that the job may seize.
+/// Each record that the job holds is one that it may hold: it stood in the chain with which the job
+/// began, or it was free then and is of a file that the job may seize.
 pub fn records_may_be_held()
     ensures steps { (x : Exchange) (facts : List Fact) (m : Summary) (s : State) (start : JobStart)
         (n : ℕ)

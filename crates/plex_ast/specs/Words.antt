@@ -1,4 +1,5 @@
--- The words of the language as a grammar sees them: each keyword and each mark is a set of one class.
+-- The words of the language as a grammar sees them: each keyword and each mark is a set of one
+-- class.
 use Rattle.std.specs.Prelude.{ℕ, List}
 use Rattle.token_grammar.specs.Language.{keyword, mark}
 

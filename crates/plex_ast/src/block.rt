@@ -43,7 +43,8 @@ impl Drop for Decl {
 /// The alternatives of `decl`.
 #[derive(Drop)]
 pub enum DeclKind {
-    /// `VARIABLE name WIDTH number [ INIT number ] [ CLEAR ] ;` where `clear` says whether CLEAR stands there
+    /// `VARIABLE name WIDTH number [ INIT number ] [ CLEAR ] ;` where `clear` says whether CLEAR
+    /// stands there
     Variable {
         name: Named,
         width: Numbered,
@@ -54,7 +55,8 @@ pub enum DeclKind {
     Temporary {
         name: Named,
     },
-    /// `[ FORLOPP ] FILE name SIZE number ; { FIELD .. }` where `forlopp` says whether FORLOPP stands there
+    /// `[ FORLOPP ] FILE name SIZE number ; { FIELD .. }` where `forlopp` says whether FORLOPP
+    /// stands there
     File {
         forlopp: bool,
         name: Named,

@@ -5,7 +5,8 @@ use plex_num::Memory;
 use std::alloc::Global;
 use std::marker::Model;
 
-/// A value with a place of its own in memory, so that a type may hold itself; contracts see the value alone.
+/// A value with a place of its own in memory, so that a type may hold itself; contracts see the
+/// value alone.
 pub struct Boxed<T> {
     place: Box<T>,
 }

@@ -6,7 +6,8 @@ use plex_num::{Memory, Seq};
 use std::alloc::Global;
 use std::marker::Model;
 
-/// A list that mostly is empty, and then takes no memory but its own two words; contracts see it as a list of its items.
+/// A list that mostly is empty, and then takes no memory but its own two words; contracts see it as
+/// a list of its items.
 pub struct Few<T> {
     items: Option<Boxed<Seq<T>>>,
 }
@@ -61,8 +62,8 @@ impl<T: Drop> Few<T> {
     }
 }
 
-/// Appends an item as `push` does, but the first one takes room for itself alone: most lists of an expression, and of what
-/// a statement holds, have one.
+/// Appends an item as `push` does, but the first one takes room for itself alone: most lists of an
+/// expression, and of what a statement holds, have one.
 pub fn push_few<T: Drop>(alloc: Global, list: &mut Seq<T>, item: T) -> Result<(), Memory>
     ensures { MatchResult result (λ _. list.new ≡ list.old ++ item ∷ [])
         (λ _. list.new ≡ list.old) }

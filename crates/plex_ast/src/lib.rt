@@ -1,9 +1,9 @@
 // The tree of an exchange, one node type for each production of the grammar.
 //
-// What goes in and out: trees, which the parser makes and the rules, the meaning and the printer read.
-// The grammar itself stands in specs/: which lists of tokens spell which tree. The parser's contract and
-// the printer's cite it.
-// It knows no rule beyond the grammar: any name may stand for anything, and any number has any size.
+// What goes in and out: trees, which the parser makes and the rules, the meaning and the printer
+// read. The grammar itself stands in specs/: which lists of tokens spell which tree. The parser's
+// contract and the printer's cite it. It knows no rule beyond the grammar: any name may stand for
+// anything, and any number has any size.
 #![tactic(auto)]
 
 mod block;

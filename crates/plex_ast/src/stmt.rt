@@ -50,7 +50,8 @@ pub struct Stmt {
     pub kind: StmtKind,
 }
 
-/// The alternatives of `stmt`. What a short statement lacks stands behind boxes, so that a list of many is small.
+/// The alternatives of `stmt`. What a short statement lacks stands behind boxes, so that a list of
+/// many is small.
 #[derive(Drop)]
 #[cycle(stmt)]
 pub enum StmtKind {
@@ -102,7 +103,8 @@ pub enum StmtKind {
         value: Boxed<Expr>,
         label: Boxed<Named>,
     },
-    /// `SEND name [ ref ] [ exprs ] [ NEW FORLOPP ] ;` where `fresh` says whether NEW FORLOPP stands there
+    /// `SEND name [ ref ] [ exprs ] [ NEW FORLOPP ] ;` where `fresh` says whether NEW FORLOPP
+    /// stands there
     Send {
         signal: Boxed<Named>,
         reference: Option<Boxed<Reference>>,

@@ -1,5 +1,5 @@
-//! The words of the language by their classes, as a grammar sees them: 2k + 6 for the keyword k, 2m + 7 for the
-//! mark m, with keywords and marks numbered from 0.
+//! The words of the language by their classes, as a grammar sees them: 2k + 6 for the keyword k, 2m
+//! + 7 for the mark m, with keywords and marks numbered from 0.
 
 /// Any name but the four of the job buffers.
 pub const NAME: u64 = 0;

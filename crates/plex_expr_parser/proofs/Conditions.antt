@@ -4,7 +4,9 @@ use Rattle.plex_lexer.specs.declared.token.Token.{Token}
 use Rattle.token_grammar.specs.declared.named.Named.{Named}
 use Rattle.token_grammar.specs.Language.{Lang, word, ◌·◌, each, named, class, mem}
 use Rattle.token_grammar.specs.Reading.{word_of, lined}
-use Rattle.token_grammar.proofs.Exact.{Exact, Exact-word, Exact-pair, Exact-same, Exact-lined, Exact-branch, Exact-many, Exact-after, Exact-ended, Exact-weak, Either, Lined, one}
+use Rattle.token_grammar.proofs.Exact.{Exact, Exact-word, Exact-pair, Exact-same, Exact-lined}
+use Rattle.token_grammar.proofs.Exact.{Exact-branch, Exact-many, Exact-after, Exact-ended}
+use Rattle.token_grammar.proofs.Exact.{Exact-weak, Either, Lined, one}
 use Rattle.token_grammar.proofs.Words.{a_keyword, a_mark, Exact-name}
 use Rattle.plex_ast.specs.declared.expr.Expr.{Expr}
 use Rattle.plex_ast.specs.declared.expr.Rel.{Rel}
@@ -18,9 +20,16 @@ use Rattle.plex_ast.specs.declared.stmt.Names.{Names}
 use Rattle.plex_ast.specs.declared.stmt.Reference.{Reference}
 use Rattle.plex_ast.specs.declared.stmt.ReferenceKind.{ReferenceKind}
 use Rattle.plex_ast.specs.declared.stmt.ReferenceKind.TheVariants as references
-use Rattle.plex_ast.specs.Words.{WITH, REFERENCE, AND, OR, COMMA, OPEN, CLOSE, EQUAL, BELOW, ABOVE, AT_MOST, AT_LEAST, UNEQUAL}
-use Rattle.plex_ast.specs.Grammar.{expr, rel_at, rel, relation, conj, cond_of, names, exprs, reference_at, reference}
-use Rattle.plex_expr_parser.specs.Readers.{rel_kind_read, rel_made, rel_read, relation_made, relation_read, conj_made, and_read, conj_read, cond_made, or_read, cond_read, comma_name_read, names_made, names_read, comma_expr_read, exprs_made, exprs_read, held_read, receiver_kind_read, reference_made, reference_read}
+use Rattle.plex_ast.specs.Words.{WITH, REFERENCE, AND, OR, COMMA, OPEN, CLOSE, EQUAL, BELOW, ABOVE}
+use Rattle.plex_ast.specs.Words.{AT_MOST, AT_LEAST, UNEQUAL}
+use Rattle.plex_ast.specs.Grammar.{expr, rel_at, rel, relation, conj, cond_of, names, exprs}
+use Rattle.plex_ast.specs.Grammar.{reference_at, reference}
+use Rattle.plex_expr_parser.specs.Readers.{rel_kind_read, rel_made, rel_read, relation_made}
+use Rattle.plex_expr_parser.specs.Readers.{relation_read, conj_made, and_read, conj_read, cond_made}
+use Rattle.plex_expr_parser.specs.Readers.{or_read, cond_read, comma_name_read, names_made}
+use Rattle.plex_expr_parser.specs.Readers.{names_read, comma_expr_read, exprs_made, exprs_read}
+use Rattle.plex_expr_parser.specs.Readers.{held_read, receiver_kind_read, reference_made}
+use Rattle.plex_expr_parser.specs.Readers.{reference_read}
 use Rattle.plex_expr_parser.proofs.Expressions.{FACTOR, PAST_EXPR, Exact-expr}
 
 abbrev pub REL : List ℕ
@@ -41,7 +50,9 @@ abbrev Says : RelKind → List ℕ → RelKind → Lang
 Says k c = Lined (λ _ (t : Token). k) (one c)
 
 abbrev Rels : RelKind → Lang
-Rels = Either (Says rels.Equal EQUAL) (Either (Says rels.Unequal UNEQUAL) (Either (Says rels.Below BELOW) (Either (Says rels.AtMost AT_MOST) (Either (Says rels.Above ABOVE) (Says rels.AtLeast AT_LEAST)))))
+Rels = Either (Says rels.Equal EQUAL) (Either (Says rels.Unequal UNEQUAL)
+    (Either (Says rels.Below BELOW) (Either (Says rels.AtMost AT_MOST)
+    (Either (Says rels.Above ABOVE) (Says rels.AtLeast AT_LEAST)))))
 
 Exact-rel-kind : Exact rel_at rel_at REL false [] rel_kind_read rel_kind_read
 unfolding rel_kind_read
@@ -54,7 +65,9 @@ Exact-rel-kind = Exact-same rel_at rel_at to from to
     (says rels.AtLeast AT_LEAST (a_mark 12) refl)
     refl refl) refl refl) refl refl) refl refl) refl refl)
   where
-    says : (k : RelKind) (c : List ℕ) (t : Token) → mem (class t) c ≡ true → Exact (Says k c) (Says k c) c false [] (lined (λ _ (t : Token). k) (word_of c)) (lined (λ _ (t : Token). k) (word_of c))
+    says : (k : RelKind) (c : List ℕ) (t : Token) → mem (class t) c ≡ true
+        → Exact (Says k c) (Says k c) c false [] (lined (λ _ (t : Token). k) (word_of c))
+        (lined (λ _ (t : Token). k) (word_of c))
     says k c t h = Exact-lined (λ _ (t : Token). k) (Exact-word c t h)
 
     to : (x : RelKind) (u : List Token) → Rels x u → rel_at x u
@@ -88,10 +101,13 @@ unfolding relation_read
 Exact-relation b c h = Exact-same (relation true b) (relation true c) (to b) from (to c)
     (Exact-lined relation_made (Exact-pair (Exact-expr b c h) (Exact-pair Exact-rel (Exact-expr b c h) refl) refl))
   where
-    to : (b : ℕ) (x : Relation) (u : List Token) → Lined relation_made (λ (p : Expr × (Rel × Expr)). expr true b p.0 · (rel true p.1.0 · expr true b p.1.1)) x u → relation true b x u
+    to : (b : ℕ) (x : Relation) (u : List Token)
+        → Lined relation_made (λ (p : Expr × (Rel × Expr)). expr true b p.0 · (rel true p.1.0 · expr true b p.1.1)) x u
+        → relation true b x u
     to b x u h = subst (λ y. relation true b y u) (sym h.1) (h.2, λ _. refl)
 
-    from : (x : Relation) (u : List Token) → relation true b x u → Lined relation_made (λ (p : Expr × (Rel × Expr)). expr true b p.0 · (rel true p.1.0 · expr true b p.1.1)) x u
+    from : (x : Relation) (u : List Token) → relation true b x u
+        → Lined relation_made (λ (p : Expr × (Rel × Expr)). expr true b p.0 · (rel true p.1.0 · expr true b p.1.1)) x u
     from x u h = ((x.left, (x.rel, x.right)), λ i. record { line = h.1 refl i; left = x.left; rel = x.rel; right = x.right }, h.0)
 
 pub Exact-and : (b c : ℕ) → b < c → Exact (λ r. word AND · relation true b r) (λ r. word AND · relation true c r) AND false PAST_EXPR (and_read b) (and_read c)
@@ -103,10 +119,14 @@ unfolding conj_read
 Exact-conj b c h = Exact-same (conj true b) (conj true c) (to b) from (to c)
     (Exact-weak FACTOR PAST_CONJ (Exact-lined conj_made (Exact-pair (Exact-relation b c h) (Exact-many (Exact-and b c h) refl) refl)) refl refl)
   where
-    to : (b : ℕ) (x : Conj) (u : List Token) → Lined conj_made (λ (p : Relation × List Relation). relation true b p.0 · each (λ r. word AND · relation true b r) p.1) x u → conj true b x u
+    to : (b : ℕ) (x : Conj) (u : List Token) → Lined conj_made
+        (λ (p : Relation × List Relation). relation true b p.0 · each (λ r. word AND · relation true b r) p.1) x u
+        → conj true b x u
     to b x u h = subst (λ y. conj true b y u) (sym h.1) (h.2, λ _. refl)
 
-    from : (x : Conj) (u : List Token) → conj true b x u → Lined conj_made (λ (p : Relation × List Relation). relation true b p.0 · each (λ r. word AND · relation true b r) p.1) x u
+    from : (x : Conj) (u : List Token) → conj true b x u
+        → Lined conj_made (λ (p : Relation × List Relation). relation true b p.0 · each
+        (λ r. word AND · relation true b r) p.1) x u
     from x u h = ((x.first, x.rest), λ i. record { line = h.1 refl i; first = x.first; rest = x.rest }, h.0)
 
 pub Exact-or : (b c : ℕ) → b < c → Exact (λ j. word OR · conj true b j) (λ j. word OR · conj true c j) OR false PAST_CONJ (or_read b) (or_read c)
@@ -118,10 +138,12 @@ unfolding cond_read
 Exact-cond b c h = Exact-same (cond_of true b) (cond_of true c) (to b) from (to c)
     (Exact-weak FACTOR PAST_COND (Exact-lined cond_made (Exact-pair (Exact-conj b c h) (Exact-many (Exact-or b c h) refl) refl)) refl refl)
   where
-    to : (b : ℕ) (x : Cond) (u : List Token) → Lined cond_made (λ (p : Conj × List Conj). conj true b p.0 · each (λ j. word OR · conj true b j) p.1) x u → cond_of true b x u
+    to : (b : ℕ) (x : Cond) (u : List Token) → Lined cond_made
+        (λ (p : Conj × List Conj). conj true b p.0 · each (λ j. word OR · conj true b j) p.1) x u → cond_of true b x u
     to b x u h = subst (λ y. cond_of true b y u) (sym h.1) (h.2, λ _. refl)
 
-    from : (x : Cond) (u : List Token) → cond_of true b x u → Lined cond_made (λ (p : Conj × List Conj). conj true b p.0 · each (λ j. word OR · conj true b j) p.1) x u
+    from : (x : Cond) (u : List Token) → cond_of true b x u
+        → Lined cond_made (λ (p : Conj × List Conj). conj true b p.0 · each (λ j. word OR · conj true b j) p.1) x u
     from x u h = ((x.first, x.rest), λ i. record { line = h.1 refl i; first = x.first; rest = x.rest }, h.0)
 
 -- lists and receivers
@@ -135,30 +157,42 @@ unfolding names_read
 Exact-names = Exact-same (names true) (names true) to from to
     (Exact-lined names_made (Exact-after WITH (a_keyword 43) refl (Exact-pair Exact-name (Exact-many Exact-comma-name refl) refl)))
   where
-    to : (x : Names) (u : List Token) → Lined names_made (λ (p : Named × List Named). word WITH · (named true p.0 · each (λ n. word COMMA · named true n) p.1)) x u → names true x u
+    to : (x : Names) (u : List Token) → Lined names_made
+        (λ (p : Named × List Named). word WITH · (named true p.0 · each (λ n. word COMMA · named true n) p.1)) x u
+        → names true x u
     to x u h = subst (λ y. names true y u) (sym h.1) (h.2, λ _. refl)
 
-    from : (x : Names) (u : List Token) → names true x u → Lined names_made (λ (p : Named × List Named). word WITH · (named true p.0 · each (λ n. word COMMA · named true n) p.1)) x u
+    from : (x : Names) (u : List Token) → names true x u
+        → Lined names_made (λ (p : Named × List Named). word WITH ·
+        (named true p.0 · each (λ n. word COMMA · named true n) p.1)) x u
     from x u h = ((x.first, x.rest), λ i. record { line = h.1 refl i; first = x.first; rest = x.rest }, h.0)
 
-pub Exact-comma-expr : (b c : ℕ) → b < c → Exact (λ e. word COMMA · expr true b e) (λ e. word COMMA · expr true c e) COMMA false PAST_EXPR (comma_expr_read b) (comma_expr_read c)
+pub Exact-comma-expr : (b c : ℕ) → b < c → Exact (λ e. word COMMA · expr true b e) (λ e. word COMMA · expr true c e)
+    COMMA false PAST_EXPR (comma_expr_read b) (comma_expr_read c)
 unfolding comma_expr_read
 Exact-comma-expr b c h = Exact-after COMMA (a_mark 1) refl (Exact-expr b c h)
 
 pub Exact-exprs : (b c : ℕ) → b < c → Exact (exprs true b) (exprs true c) WITH false PAST_EXPRS (exprs_read b) (exprs_read c)
 unfolding exprs_read
 Exact-exprs b c h = Exact-same (exprs true b) (exprs true c) (to b) from (to c)
-    (Exact-weak WITH PAST_EXPRS (Exact-lined exprs_made (Exact-after WITH (a_keyword 43) refl (Exact-pair (Exact-expr b c h) (Exact-many (Exact-comma-expr b c h) refl) refl))) refl refl)
+    (Exact-weak WITH PAST_EXPRS (Exact-lined exprs_made
+    (Exact-after WITH (a_keyword 43) refl (Exact-pair (Exact-expr b c h) (Exact-many (Exact-comma-expr b c h) refl)
+    refl))) refl refl)
   where
-    to : (b : ℕ) (x : Exprs) (u : List Token) → Lined exprs_made (λ (p : Expr × List Expr). word WITH · (expr true b p.0 · each (λ e. word COMMA · expr true b e) p.1)) x u → exprs true b x u
+    to : (b : ℕ) (x : Exprs) (u : List Token) → Lined exprs_made
+        (λ (p : Expr × List Expr). word WITH · (expr true b p.0 · each (λ e. word COMMA · expr true b e) p.1)) x u
+        → exprs true b x u
     to b x u h = subst (λ y. exprs true b y u) (sym h.1) (h.2, λ _. refl)
 
-    from : (x : Exprs) (u : List Token) → exprs true b x u → Lined exprs_made (λ (p : Expr × List Expr). word WITH · (expr true b p.0 · each (λ e. word COMMA · expr true b e) p.1)) x u
+    from : (x : Exprs) (u : List Token) → exprs true b x u
+        → Lined exprs_made (λ (p : Expr × List Expr). word WITH ·
+        (expr true b p.0 · each (λ e. word COMMA · expr true b e) p.1)) x u
     from x u h = ((x.first, x.rest), λ i. record { line = h.1 refl i; first = x.first; rest = x.rest }, h.0)
 
 -- what names the receiver, and the word before it
 abbrev Receivers : ReferenceKind → Lang
-Receivers = Either (Lined (λ _ (v : Named). references.Held v) (λ v. word OPEN · (named true v · word CLOSE))) (Lined (λ _ (m : Named). references.Block m) (named true))
+Receivers = Either (Lined (λ _ (v : Named). references.Held v) (λ v. word OPEN · (named true v · word CLOSE)))
+    (Lined (λ _ (m : Named). references.Block m) (named true))
 
 pub Exact-reference : Exact (reference true) (reference true) REFERENCE false [] reference_read reference_read
 unfolding reference_read receiver_kind_read held_read

@@ -5,7 +5,8 @@ use Rattle.plex_lexer.specs.declared.token.Token.{Token}
 use Rattle.token_grammar.specs.declared.named.Named.{Named}
 use Rattle.token_grammar.specs.declared.named.Numbered.{Numbered}
 use Rattle.token_grammar.specs.Language.{NAME, NUMBER}
-use Rattle.token_grammar.specs.Reading.{Reader, word_of, many, both, branch, halt, lined, after, ended, pair, optional, name_read, number_read}
+use Rattle.token_grammar.specs.Reading.{Reader, word_of, many, both, branch, halt, lined, after}
+use Rattle.token_grammar.specs.Reading.{ended, pair, optional, name_read, number_read}
 use Rattle.plex_ast.specs.declared.expr.Expr.{Expr}
 use Rattle.plex_ast.specs.declared.expr.Added.{Added, Plus, Minus}
 use Rattle.plex_ast.specs.declared.expr.Term.{Term}
@@ -24,7 +25,8 @@ use Rattle.plex_ast.specs.declared.stmt.Names.{Names}
 use Rattle.plex_ast.specs.declared.stmt.Reference.{Reference}
 use Rattle.plex_ast.specs.declared.stmt.ReferenceKind.{ReferenceKind}
 use Rattle.plex_ast.specs.declared.stmt.ReferenceKind.TheVariants as references
-use Rattle.plex_ast.specs.Words.{WITH, REFERENCE, AND, OR, MOD, COMMA, OPEN, CLOSE, EQUAL, PLUS, MINUS, TIMES, OVER, BELOW, ABOVE, AT_MOST, AT_LEAST, UNEQUAL}
+use Rattle.plex_ast.specs.Words.{WITH, REFERENCE, AND, OR, MOD, COMMA, OPEN, CLOSE, EQUAL, PLUS}
+use Rattle.plex_ast.specs.Words.{MINUS, TIMES, OVER, BELOW, ABOVE, AT_MOST, AT_LEAST, UNEQUAL}
 
 -- expressions
 
@@ -45,7 +47,8 @@ abbrev pub named_read : Reader FactorKind
 named_read = both with_pointer name_read pointer_read
 
 unfoldable pub plain_read : Reader FactorKind
-plain_read = branch NUMBER (lined (λ _ (n : Numbered). Number n) number_read) (branch REFERENCE block_read named_read)
+plain_read = branch NUMBER (lined (λ _ (n : Numbered). Number n) number_read)
+    (branch REFERENCE block_read named_read)
 
 abbrev pub PLAIN : List ℕ
 PLAIN = NUMBER ++ (REFERENCE ++ NAME)
@@ -71,7 +74,9 @@ abbrev pub MULTIPLY : List ℕ
 MULTIPLY = TIMES ++ (OVER ++ MOD)
 
 unfoldable pub multiplied_by : Reader Factor → Reader Multiplied
-multiplied_by F = branch TIMES (lined (λ _ (f : Factor). Times f) (after TIMES F)) (branch OVER (lined (λ _ (f : Factor). Over f) (after OVER F)) (lined (λ _ (f : Factor). Mod f) (after MOD F)))
+multiplied_by F = branch TIMES (lined (λ _ (f : Factor). Times f) (after TIMES F))
+    (branch OVER (lined (λ _ (f : Factor). Over f) (after OVER F))
+    (lined (λ _ (f : Factor). Mod f) (after MOD F)))
 
 abbrev pub term_made : ℕ → Factor × List Multiplied → Term
 term_made line p = record { line = line; first = p.0; rest = p.1 }
@@ -83,7 +88,8 @@ abbrev pub ADD : List ℕ
 ADD = PLUS ++ MINUS
 
 unfoldable pub added_by : Reader Term → Reader Added
-added_by T = branch PLUS (lined (λ _ (t : Term). Plus t) (after PLUS T)) (lined (λ _ (t : Term). Minus t) (after MINUS T))
+added_by T = branch PLUS (lined (λ _ (t : Term). Plus t) (after PLUS T))
+    (lined (λ _ (t : Term). Minus t) (after MINUS T))
 
 abbrev pub expr_made : ℕ → Term × List Added → Expr
 expr_made line p = record { line = line; first = p.0; rest = p.1 }

@@ -2,7 +2,9 @@
 ghost use Rattle.std.specs.Prelude.{◌≡◌};
 ghost use Rattle.token_grammar.specs.Gives.{Reads};
 ghost use Rattle.token_grammar.specs.Reading.{many};
-ghost use Rattle.plex_expr_parser.specs.Readers.{and_read, compared_read, cond_read, conj_read, or_read, rel_kind_read, rel_read, relation_read, sign_read};
+ghost use Rattle.plex_expr_parser.specs.Readers.{and_read, compared_read, cond_read, conj_read};
+ghost use Rattle.plex_expr_parser.specs.Readers.{or_read, rel_kind_read, rel_read, relation_read};
+ghost use Rattle.plex_expr_parser.specs.Readers.{sign_read};
 ghost use Rattle.plex_ast.specs.Words as classes;
 
 use crate::expression::expr;

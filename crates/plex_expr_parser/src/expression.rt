@@ -2,7 +2,9 @@
 ghost use Rattle.std.specs.Prelude.{◌≡◌, ◌++◌, ◌∷◌, []};
 ghost use Rattle.token_grammar.specs.Gives.{Reads};
 ghost use Rattle.token_grammar.specs.Reading.{after, many};
-ghost use Rattle.plex_expr_parser.specs.Readers.{added_by, bracket_at, bracket_read, expr_read, factor_read, inside_read, kind_with, multiplied_by, term_read, ADD, MULTIPLY};
+ghost use Rattle.plex_expr_parser.specs.Readers.{added_by, bracket_at, bracket_read, expr_read};
+ghost use Rattle.plex_expr_parser.specs.Readers.{factor_read, inside_read, kind_with};
+ghost use Rattle.plex_expr_parser.specs.Readers.{multiplied_by, term_read, ADD, MULTIPLY};
 
 use crate::boxes::{boxed, few};
 use crate::factor::plain;
@@ -23,7 +25,8 @@ const PLAIN: [u64; 7] = [
     words::NAME_D,
 ];
 
-/// An expression and the tokens after it, or where the reading stopped; brackets nest at most `room` deep.
+/// An expression and the tokens after it, or where the reading stopped; brackets nest at most
+/// `room` deep.
 #[cycle(reading)]
 #[tactic(auto, unfolding(crate::specs::Readers::expr_read, crate::specs::Readers::expr_by))]
 pub fn expr(alloc: Global, tokens: Cursor<'_>, room: usize) -> Result<(Expr, Cursor<'_>), Fault>

@@ -1,7 +1,8 @@
 // Factors that hold no expression.
 ghost use Rattle.std.specs.Prelude.{◌≡◌, ◌++◌};
 ghost use Rattle.token_grammar.specs.Gives.{Reads};
-ghost use Rattle.plex_expr_parser.specs.Readers.{block_read, in_brackets_read, named_read, plain_read, pointer_read};
+ghost use Rattle.plex_expr_parser.specs.Readers.{block_read, in_brackets_read, named_read};
+ghost use Rattle.plex_expr_parser.specs.Readers.{plain_read, pointer_read};
 
 use crate::boxes::boxed;
 use plex_ast::{Boxed, FactorKind, Named, words};

@@ -1,9 +1,9 @@
 // Expressions, conditions and lists read from the front of a list of tokens.
 //
-// What goes in: tokens. What comes out: a node and the tokens after it, or where the reading stopped. Each
-// function's contract says that it does what its reader in specs/ does, and the proofs say that the reader
-// is exact for the grammar. The parser of statements and blocks stands on both.
-// It knows no statement.
+// What goes in: tokens. What comes out: a node and the tokens after it, or where the reading
+// stopped. Each function's contract says that it does what its reader in specs/ does, and the
+// proofs say that the reader is exact for the grammar. The parser of statements and blocks stands
+// on both. It knows no statement.
 #![tactic(auto)]
 
 mod boxes;

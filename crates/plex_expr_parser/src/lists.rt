@@ -2,7 +2,9 @@
 ghost use Rattle.std.specs.Prelude.{◌≡◌};
 ghost use Rattle.token_grammar.specs.Gives.{Reads};
 ghost use Rattle.token_grammar.specs.Reading.{many};
-ghost use Rattle.plex_expr_parser.specs.Readers.{comma_expr_read, comma_name_read, exprs_read, held_read, names_read, receiver_kind_read, reference_read};
+ghost use Rattle.plex_expr_parser.specs.Readers.{comma_expr_read, comma_name_read, exprs_read};
+ghost use Rattle.plex_expr_parser.specs.Readers.{held_read, names_read, receiver_kind_read};
+ghost use Rattle.plex_expr_parser.specs.Readers.{reference_read};
 ghost use Rattle.plex_ast.specs.Words as classes;
 
 use crate::expression::expr;

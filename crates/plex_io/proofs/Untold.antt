@@ -17,6 +17,7 @@ pub raised_rose : (before now : ℕ) → now ≡ risen before → Rose before no
 raised_rose before now raised = omega (arith, raised)
 
 -- the same at an Err
-pub raised_at_err : {T E : Type 0} (result : Result T E) (P : Type 0) (before now : ℕ) → MatchResult result (λ _. P) (λ _. now ≡ risen before) → OnErr result (Rose before now)
+pub raised_at_err : {T E : Type 0} (result : Result T E) (P : Type 0) (before now : ℕ)
+    → MatchResult result (λ _. P) (λ _. now ≡ risen before) → OnErr result (Rose before now)
 raised_at_err (Ok value) P before now raised = tt
 raised_at_err (Err e) P before now raised = raised_rose before now raised

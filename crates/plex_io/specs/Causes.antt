@@ -10,7 +10,8 @@ risen n = min (n + 1) (2 ^ 64 - 1)
 abbrev pub Rose : ℕ → ℕ → Type 0
 Rose before now = risen before ≤ now
 
--- what a device of the system tells of itself: how often it has failed, and of what kind its last failure was
+-- what a device of the system tells of itself: how often it has failed, and of what kind its last
+-- failure was
 pub record Failures : Type 0 where
   pub faults : ℕ
   pub cause : Option ErrorKind

@@ -14,7 +14,8 @@ or_empty (Some bytes) = bytes
 abbrev pub always_held : List StoredFile → Files
 always_held files name = Some (or_empty (held_in files name))
 
--- a sink in memory that tells its size: the bytes written, the size at which it is full, and how many faults
+-- a sink in memory that tells its size: the bytes written, the size at which it is full, and how
+-- many faults
 pub record SteadyState : Type 0 where
   pub bytes : List ℕ
   pub size : ℕ

@@ -1,5 +1,6 @@
 -- Files in memory.
-use Rattle.std.specs.Prelude.{ℕ, List, [], ◌∷◌, Option, Some, None, Result, Ok, Err, Contains, if◌then◌else◌}
+use Rattle.std.specs.Prelude.{ℕ, List, [], ◌∷◌, Option, Some, None, Result, Ok, Err, Contains}
+use Rattle.std.specs.Prelude.{if◌then◌else◌}
 use Rattle.std.specs.Str.{bytes_eq}
 use Rattle.plex_io.specs.Causes.{risen}
 use Rattle.plex_io.specs.declared.memory_shelf.StoredFile.{StoredFile}
@@ -11,7 +12,8 @@ unfoldable pub held_in : List StoredFile → List ℕ → Option (List ℕ)
 held_in [] name = None
 held_in (f ∷ rest) name = (if bytes_eq f.name name then Some f.content else held_in rest name)
 
--- a shelf in memory: its files, the numbers of the calls that are to fail, how many calls there were, and how many faults
+-- a shelf in memory: its files, the numbers of the calls that are to fail, how many calls there
+-- were, and how many faults
 pub record ShelfState : Type 0 where
   pub files : List StoredFile
   pub fails : List ℕ

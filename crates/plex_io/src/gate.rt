@@ -12,7 +12,8 @@ pub enum Moment {
     },
 }
 
-/// What is told of the jobs' threads. A call of it returns, and changes nothing that a contract names.
+/// What is told of the jobs' threads. A call of it returns, and changes nothing that a contract
+/// names.
 pub trait Gate {
     /// The thread that runs a job calls this before and after it. Jobs have numbers from 1.
     fn at(&self, job: u64, moment: Moment);

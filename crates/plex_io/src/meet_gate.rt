@@ -3,7 +3,8 @@ use crate::gate::{Gate, Moment};
 use crate::turns::comes_to;
 use std::sync::atomic::{AtomicU64, Ordering};
 
-/// A gate that holds each job before its first step until two jobs have begun, for a number of turns at most.
+/// A gate that holds each job before its first step until two jobs have begun, for a number of
+/// turns at most.
 #[derive(Drop)]
 pub struct MeetGate {
     limit: u64,
@@ -14,7 +15,8 @@ pub struct MeetGate {
 }
 
 impl MeetGate {
-    /// A gate that no job has come to. It holds a job for so many turns at most; a turn is one look at how many have begun.
+    /// A gate that no job has come to. It holds a job for so many turns at most; a turn is one look
+    /// at how many have begun.
     pub fn new(limit: u64) -> MeetGate {
         MeetGate {
             limit,

@@ -1,5 +1,6 @@
 // Files in memory.
-ghost use Rattle.std.specs.Prelude.{◌≡◌, ◌≤◌, ◌↔◌, Some, None, Err, IsTrue, MatchOption, IfOk, IfErr, Contains};
+ghost use Rattle.std.specs.Prelude.{◌≡◌, ◌≤◌, ◌↔◌, Some, None, Err, IsTrue, MatchOption, IfOk};
+ghost use Rattle.std.specs.Prelude.{IfErr, Contains};
 ghost use Rattle.plex_io.specs.Files.{ReadGives};
 ghost use Rattle.plex_io.specs.Stored.{held_in, IsShelfCallListed, after_read};
 

@@ -1,5 +1,6 @@
 // Output in memory.
-ghost use Rattle.std.specs.Prelude.{◌≡◌, ◌≤◌, ◌+◌, ◌++◌, ◌↔◌, [], Some, length, take, vec_len, vec_capacity, IsErr, IfOk, MatchResult};
+ghost use Rattle.std.specs.Prelude.{◌≡◌, ◌≤◌, ◌+◌, ◌++◌, ◌↔◌, [], Some, length, take, vec_len};
+ghost use Rattle.std.specs.Prelude.{vec_capacity, IsErr, IfOk, MatchResult};
 ghost use Rattle.plex_io.specs.Written.{TakesSome, no_size};
 ghost use Rattle.plex_io.specs.Kept.{taken, Refuses, after_write, after_refusal};
 
@@ -9,8 +10,8 @@ use std::alloc::Global;
 use std::marker::Model;
 
 /// A sink in memory, which tells its bytes and no size. Of a piece it takes as many bytes as its
-/// largest piece and the room that is left allow. A write fails exactly where its number is listed, or
-/// where there is something to write and no room is left. Writes have numbers from 1.
+/// largest piece and the room that is left allow. A write fails exactly where its number is listed,
+/// or where there is something to write and no room is left. Writes have numbers from 1.
 #[derive(Drop)]
 pub struct MemorySink {
     bytes: Vec<u8>,

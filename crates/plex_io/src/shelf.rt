@@ -28,8 +28,8 @@ pub trait Shelf {
     // how often the shelf has failed; it never falls
     ghost faults: { Self → ℕ };
 
-    /// The bytes of the file of this name, or its first `limit + 1` bytes where it is longer. No call
-    /// changes what is held.
+    /// The bytes of the file of this name, or its first `limit + 1` bytes where it is longer. No
+    /// call changes what is held.
     fn read_file(&mut self, alloc: Global, name: &Word, limit: u64) -> Result<Seq<u8>, ShelfFault>
         ensures bytes { IfOk result (λ got.
             IfSome (held self.old) (λ files. ReadGives (files name.now) limit got)) }

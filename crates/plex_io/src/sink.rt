@@ -31,9 +31,9 @@ pub trait Sink {
         ensures later { faults self.old ≤ faults self.new };
 }
 
-/// Writes the whole text, by as many writes as it takes; it takes no memory. `SinkFailed` comes where
-/// one of these failed: then a proper prefix of the text was written. For an empty text nothing is
-/// called.
+/// Writes the whole text, by as many writes as it takes; it takes no memory. `SinkFailed` comes
+/// where one of these failed: then a proper prefix of the text was written. For an empty text
+/// nothing is called.
 #[tactic(auto, using(crate::proofs::Prefixes::appended_rest, crate::proofs::Prefixes::appended_none, crate::proofs::Prefixes::appended_all))]
 pub fn write_all<K: Sink>(sink: &mut K, text: &[u8]) -> Result<(), SinkFailed>
     ensures ok { OnOk result (K.written sink.new ≡ appended (K.written sink.old) text.now) }

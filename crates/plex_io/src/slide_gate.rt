@@ -3,7 +3,8 @@ use crate::gate::{Gate, Moment};
 use crate::turns::comes_to;
 use std::sync::atomic::{AtomicU64, Ordering};
 
-/// A gate that holds job 2 before its first step until job 3 has begun, for a number of turns at most. It holds no other job.
+/// A gate that holds job 2 before its first step until job 3 has begun, for a number of turns at
+/// most. It holds no other job.
 #[derive(Drop)]
 pub struct SlideGate {
     limit: u64,
@@ -14,7 +15,8 @@ pub struct SlideGate {
 }
 
 impl SlideGate {
-    /// A gate that no job has come to. It holds job 2 for so many turns at most; a turn is one look at whether job 3 has begun.
+    /// A gate that no job has come to. It holds job 2 for so many turns at most; a turn is one look
+    /// at whether job 3 has begun.
     pub fn new(limit: u64) -> SlideGate {
         SlideGate {
             limit,

@@ -9,8 +9,8 @@ use plex_num::Seq;
 use std::alloc::Global;
 use std::marker::Model;
 
-/// A shelf of files in memory, which tells them and never fails. Of two files with one name the first
-/// counts. Under every other name it holds an empty file.
+/// A shelf of files in memory, which tells them and never fails. Of two files with one name the
+/// first counts. Under every other name it holds an empty file.
 #[derive(Drop)]
 pub struct SteadyShelf {
     files: Seq<StoredFile>,

@@ -1,5 +1,6 @@
 // Output in memory that is full at a size which it tells.
-ghost use Rattle.std.specs.Prelude.{◌≡◌, ◌≤◌, ◌+◌, ◌↔◌, [], Some, length, take, IsErr, IsOk, IfOk, OnOk, MatchResult};
+ghost use Rattle.std.specs.Prelude.{◌≡◌, ◌≤◌, ◌+◌, ◌↔◌, [], Some, length, take, IsErr, IsOk, IfOk};
+ghost use Rattle.std.specs.Prelude.{OnOk, MatchResult};
 ghost use Rattle.plex_io.specs.Written.{TakesSome};
 ghost use Rattle.plex_io.specs.Steady.{fitting, Overflows, with_bytes, with_fault};
 
@@ -9,9 +10,9 @@ use plex_num::Memory;
 use std::alloc::Global;
 use std::marker::Model;
 
-/// A sink in memory, which tells its bytes and the size at which it is full. Of a piece it takes as many
-/// bytes as there is room left. Its writes take no memory; a write fails exactly where there is
-/// something to write and no room is left.
+/// A sink in memory, which tells its bytes and the size at which it is full. Of a piece it takes as
+/// many bytes as there is room left. Its writes take no memory; a write fails exactly where there
+/// is something to write and no room is left.
 #[derive(Drop)]
 pub struct SteadySink {
     bytes: Vec<u8>,

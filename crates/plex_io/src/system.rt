@@ -1,6 +1,7 @@
 // Real files and the standard output. No contract can say what the system holds or takes, so this
 // file is trusted to pass it on: it is a few lines over the runtime, and tests show what it does.
-ghost use Rattle.std.specs.Prelude.{◌≡◌, ◌≤◌, ◌+◌, [], None, Some, Ok, Err, length, IfOk, OnErr, IsSome, MatchResult, IsUtf8};
+ghost use Rattle.std.specs.Prelude.{◌≡◌, ◌≤◌, ◌+◌, [], None, Some, Ok, Err, length, IfOk, OnErr};
+ghost use Rattle.std.specs.Prelude.{IsSome, MatchResult, IsUtf8};
 ghost use Rattle.plex_io.specs.Causes.{risen};
 ghost use Rattle.plex_io.specs.Written.{TakesSome};
 
@@ -13,9 +14,9 @@ use std::marker::Model;
 use std::rt::Files;
 use std::{fs, io};
 
-/// The files of the system, by their paths. It does not tell what they hold. A missing file, a folder,
-/// a name that is no UTF-8 and a read that fails are `Failed`; contracts see the count of these, and that the
-/// kind of the last one is kept.
+/// The files of the system, by their paths. It does not tell what they hold. A missing file, a
+/// folder, a name that is no UTF-8 and a read that fails are `Failed`; contracts see the count of
+/// these, and that the kind of the last one is kept.
 #[derive(Drop)]
 pub struct FileShelf<'a, R> {
     rt: &'a R,
@@ -100,8 +101,8 @@ fn first_bytes<R: Files>(rt: &R, alloc: Global, path: &str, most: u64) -> io::Re
     Ok(bytes)
 }
 
-/// The standard output. It does not tell what was written, nor a size; contracts see its count of faults, and
-/// that the kind of the last one is kept.
+/// The standard output. It does not tell what was written, nor a size; contracts see its count of
+/// faults, and that the kind of the last one is kept.
 #[derive(Drop)]
 pub struct OutSink<'a, R> {
     rt: &'a R,

@@ -1,5 +1,8 @@
 -- Each token is on its line.
-use Rattle.std.proofs.Common.{true≢false, ◌≡◌, ℕ, ◌+◌, ◌-◌, ◌≤◌, Bool, true, false, cond, ◌&&◌, nat_eq, List, [], ◌∷◌, ◌++◌, length, take, Result, Ok, Err, Option, Some, None, refl, sym, ◌∙◌, ap, subst, arith, get_or, length-take-le, append_assoc, add-zero, length-append, inl, inr, IfOk, All}
+use Rattle.std.proofs.Common.{true≢false, ◌≡◌, ℕ, ◌+◌, ◌-◌, ◌≤◌, Bool, true, false, cond, ◌&&◌}
+use Rattle.std.proofs.Common.{nat_eq, List, [], ◌∷◌, ◌++◌, length, take, Result, Ok, Err, Option}
+use Rattle.std.proofs.Common.{Some, None, refl, sym, ◌∙◌, ap, subst, arith, get_or, length-take-le}
+use Rattle.std.proofs.Common.{append_assoc, add-zero, length-append, inl, inr, IfOk, All}
 use Rattle.std.specs.Char.{is_ascii_digit, is_ascii_uppercase}
 use Rattle.std.specs.List.{take_while}
 use Rattle.std.proofs.lemmas.List.Elements.{All-cons, All-nil}
@@ -11,7 +14,8 @@ use Rattle.plex_lexer.specs.declared.token.Token.{Token}
 use Rattle.plex_lexer.specs.declared.token.TokenKind.{TokenKind}
 use Rattle.plex_lexer.specs.declared.token.TokenKind.TheVariants.{Mark}
 use Rattle.plex_lexer.specs.Bytes.{is_blank, in_word, in_comment}
-use Rattle.plex_lexer.specs.Lexed.{Mode, Between, Comment, InWord, InDigits, InMark, lexed, tokens_of, begins, put, with_kind, with_mark}
+use Rattle.plex_lexer.specs.Lexed.{Mode, Between, Comment, InWord, InDigits, InMark, lexed}
+use Rattle.plex_lexer.specs.Lexed.{tokens_of, begins, put, with_kind, with_mark}
 use Rattle.plex_lexer.specs.Lines.{feeds, IsOnItsLine}
 use Rattle.plex_lexer.specs.Marks.{single_mark, double_mark, longer, mark_of}
 use Rattle.plex_lexer.specs.Words.{word_kind, number_kind}
@@ -40,7 +44,8 @@ feeds-feed : (front : List ℕ) (b : ℕ) → nat_eq b 10 ≡ true → feeds (fr
 feeds-feed front b h = feeds-push front b ∙ ap (λ t. feeds front + cond t 1 0) h
 
 feeds-same : (front : List ℕ) (b : ℕ) → nat_eq b 10 ≡ false → feeds (front ++ b ∷ []) ≡ feeds front
-feeds-same front b h = let e : feeds (front ++ b ∷ []) ≡ feeds front + 0 = feeds-push front b ∙ ap (λ t. feeds front + cond t 1 0) h in e ∙ add-zero (feeds front)
+feeds-same front b h = let e : feeds (front ++ b ∷ []) ≡ feeds front + 0 = feeds-push front b
+    ∙ ap (λ t. feeds front + cond t 1 0) h in e ∙ add-zero (feeds front)
 
 -- a branch of a choice
 choose : (w : List ℕ) (t : Bool) (x y : Read) → (t ≡ true → Lined w x) → (t ≡ false → Lined w y) → Lined w (cond t x y)
@@ -51,14 +56,18 @@ put_lined : (w : List ℕ) (t : Token) (r : Read) → IsOnItsLine w t → Lined 
 put_lined w t (Ok ts) p h = All-cons (IsOnItsLine w) t ts p h
 put_lined w t (Err f) p h = tt
 
-kind_lined : (w : List ℕ) (k : Result TokenKind LexFault) (offset line : ℕ) (r : Read) → ((kind : TokenKind) → IsOnItsLine w (record { kind = kind; line = line; offset = offset })) → Lined w r → Lined w (with_kind k offset line r)
+kind_lined : (w : List ℕ) (k : Result TokenKind LexFault) (offset line : ℕ) (r : Read)
+    → ((kind : TokenKind) → IsOnItsLine w (record { kind = kind; line = line; offset = offset })) → Lined w r
+    → Lined w (with_kind k offset line r)
 kind_lined w (Ok kind) offset line r p h = put_lined w (record { kind = kind; line = line; offset = offset }) r (p kind) h
 kind_lined w (Err f) offset line r p h = tt
 
-mark_lined : (w : List ℕ) (m : Option (ℕ × Bool)) (offset line : ℕ) (follow : Mode → Read) → ((kind : TokenKind) → IsOnItsLine w (record { kind = kind; line = line; offset = offset }))
+mark_lined : (w : List ℕ) (m : Option (ℕ × Bool)) (offset line : ℕ) (follow : Mode → Read)
+    → ((kind : TokenKind) → IsOnItsLine w (record { kind = kind; line = line; offset = offset }))
     → ((n : ℕ) (two : Bool) → m ≡ Some (n, two) → Lined w (follow (cond two InMark Between))) → Lined w (with_mark m offset line follow)
 mark_lined w None offset line follow p h = tt
-mark_lined w (Some m) offset line follow p h = put_lined w (record { kind = Mark m.0; line = line; offset = offset }) (follow (cond m.1 InMark Between)) (p (Mark m.0)) (h m.0 m.1 refl)
+mark_lined w (Some m) offset line follow p h = put_lined w (record { kind = Mark m.0; line = line; offset = offset })
+    (follow (cond m.1 InMark Between)) (p (Mark m.0)) (h m.0 m.1 refl)
 
 -- a mark's second byte is no LF
 no_double : (b c : ℕ) (rest : List ℕ) → c ≡ 10 → double_mark b (c ∷ rest) ≡ None
@@ -110,9 +119,12 @@ module _ (w : List ℕ) where
       let same : line ≡ 1 + feeds (front ++ b ∷ []) = on ∙ ap (λ k. 1 + k) (sym (feeds-same front b no_feed)) in
       choose w (is_blank b) _ _ (λ _. more Between line same tt) (λ _.
       choose w (nat_eq b 33) _ _ (λ _. more Comment line same tt) (λ _.
-      choose w (is_ascii_uppercase b) _ _ (λ _. kind_lined w (word_kind (b ∷ take_while in_word rest) offset line) offset line _ here (more InWord line same tt)) (λ _.
-      choose w (is_ascii_digit b) _ _ (λ _. kind_lined w (number_kind (b ∷ take_while is_ascii_digit rest) offset line) offset line _ here (more InDigits line same tt)) (λ _.
-      mark_lined w (mark_of b rest) offset line (λ mode. lexed mode n line rest) here (λ k two e. more (cond two InMark Between) line same (mark_calm b rest k two e)))))))
+      choose w (is_ascii_uppercase b) _ _ (λ _. kind_lined w (word_kind (b ∷ take_while in_word rest) offset line)
+      offset line _ here (more InWord line same tt)) (λ _.
+      choose w (is_ascii_digit b) _ _ (λ _. kind_lined w (number_kind (b ∷ take_while is_ascii_digit rest) offset line)
+      offset line _ here (more InDigits line same tt)) (λ _.
+      mark_lined w (mark_of b rest) offset line (λ mode. lexed mode n line rest) here
+      (λ k two e. more (cond two InMark Between) line same (mark_calm b rest k two e)))))))
     where
       offset : ℕ
       offset = n - length (b ∷ rest)
@@ -132,16 +144,21 @@ module _ (w : List ℕ) where
   lined front InWord line [] whole on calm = All-nil (IsOnItsLine w)
   lined front InDigits line [] whole on calm = All-nil (IsOnItsLine w)
   lined front InMark line [] whole on calm = All-nil (IsOnItsLine w)
-  lined front InMark line (b ∷ rest) whole on calm = lined (front ++ b ∷ []) Between line rest (append_assoc front (b ∷ []) rest ∙ whole) (on ∙ ap (λ k. 1 + k) (sym (feeds-same front b calm))) tt
-  lined front Between line (b ∷ rest) whole on calm = begins_lined front line b rest whole on (λ m l e c. lined (front ++ b ∷ []) m l rest (append_assoc front (b ∷ []) rest ∙ whole) e c)
+  lined front InMark line (b ∷ rest) whole on calm = lined (front ++ b ∷ []) Between line rest
+      (append_assoc front (b ∷ []) rest ∙ whole) (on ∙ ap (λ k. 1 + k) (sym (feeds-same front b calm))) tt
+  lined front Between line (b ∷ rest) whole on calm = begins_lined front line b rest whole on
+      (λ m l e c. lined (front ++ b ∷ []) m l rest (append_assoc front (b ∷ []) rest ∙ whole) e c)
   lined front Comment line (b ∷ rest) whole on calm = choose w (in_comment b) _ _
-      (λ h. lined (front ++ b ∷ []) Comment line rest (append_assoc front (b ∷ []) rest ∙ whole) (on ∙ ap (λ k. 1 + k) (sym (feeds-same front b (is_no_feed in_comment b refl h)))) tt)
+      (λ h. lined (front ++ b ∷ []) Comment line rest (append_assoc front (b ∷ []) rest ∙ whole)
+      (on ∙ ap (λ k. 1 + k) (sym (feeds-same front b (is_no_feed in_comment b refl h)))) tt)
       (λ _. begins_lined front line b rest whole on (λ m l e c. lined (front ++ b ∷ []) m l rest (append_assoc front (b ∷ []) rest ∙ whole) e c))
   lined front InWord line (b ∷ rest) whole on calm = choose w (in_word b) _ _
-      (λ h. lined (front ++ b ∷ []) InWord line rest (append_assoc front (b ∷ []) rest ∙ whole) (on ∙ ap (λ k. 1 + k) (sym (feeds-same front b (is_no_feed in_word b refl h)))) tt)
+      (λ h. lined (front ++ b ∷ []) InWord line rest (append_assoc front (b ∷ []) rest ∙ whole)
+      (on ∙ ap (λ k. 1 + k) (sym (feeds-same front b (is_no_feed in_word b refl h)))) tt)
       (λ _. begins_lined front line b rest whole on (λ m l e c. lined (front ++ b ∷ []) m l rest (append_assoc front (b ∷ []) rest ∙ whole) e c))
   lined front InDigits line (b ∷ rest) whole on calm = choose w (is_ascii_digit b) _ _
-      (λ h. lined (front ++ b ∷ []) InDigits line rest (append_assoc front (b ∷ []) rest ∙ whole) (on ∙ ap (λ k. 1 + k) (sym (feeds-same front b (is_no_feed is_ascii_digit b refl h)))) tt)
+      (λ h. lined (front ++ b ∷ []) InDigits line rest (append_assoc front (b ∷ []) rest ∙ whole)
+      (on ∙ ap (λ k. 1 + k) (sym (feeds-same front b (is_no_feed is_ascii_digit b refl h)))) tt)
       (λ _. begins_lined front line b rest whole on (λ m l e c. lined (front ++ b ∷ []) m l rest (append_assoc front (b ∷ []) rest ∙ whole) e c))
 
 pub tokens_on_their_lines : (text : List ℕ) (tokens : List Token) → tokens_of text ≡ Ok tokens → All (IsOnItsLine text) tokens

@@ -1,5 +1,7 @@
 -- What a token that is kept by its sort shows is what was read.
-use Rattle.std.proofs.Common.{◌≡◌, ℕ, ◌+◌, ◌-◌, ◌*◌, ◌/◌, ◌%◌, ◌<◌, ◌≤◌, true, false, nat_lt, List, [], ◌∷◌, ◌++◌, length, drop, Some, None, Result, Ok, Err, slice_get, refl, sym, ◌∙◌, ap, arith}
+use Rattle.std.proofs.Common.{◌≡◌, ℕ, ◌+◌, ◌-◌, ◌*◌, ◌/◌, ◌%◌, ◌<◌, ◌≤◌, true, false, nat_lt, List}
+use Rattle.std.proofs.Common.{[], ◌∷◌, ◌++◌, length, drop, Some, None, Result, Ok, Err, slice_get}
+use Rattle.std.proofs.Common.{refl, sym, ◌∙◌, ap, arith}
 use Rattle.std.specs.Char.{is_ascii_digit, is_ascii_uppercase}
 use Rattle.std.specs.List.{take_while}
 use Rattle.std.proofs.lemmas.Bool.Decides.{nat_tests}
@@ -19,7 +21,8 @@ use Rattle.plex_lexer.specs.declared.spot.TheConstants.{OFFSETS}
 use Rattle.plex_lexer.specs.Bytes.{in_word}
 use Rattle.plex_lexer.specs.Cursors.{lines}
 use Rattle.plex_lexer.specs.Pieces.{token_at, kind_and_rest}
-use Rattle.plex_lexer.specs.Spots.{sort_of, kind_at, IsSmall, code_of, sort_by, kept, shown, all_shown}
+use Rattle.plex_lexer.specs.Spots.{sort_of, kind_at, IsSmall, code_of, sort_by, kept, shown}
+use Rattle.plex_lexer.specs.Spots.{all_shown}
 use Rattle.plex_lexer.specs.Words.{keyword_of, word_kind, number_kind}
 
 pub sort_of_kind : (s : Sort) (bytes : List ℕ) → s ≡ sort_of (kind_at s bytes)
@@ -29,7 +32,8 @@ sort_of_kind (sorts.Keyword k) bytes = refl
 sort_of_kind (sorts.Mark m) bytes = refl
 
 -- a run that is no keyword is a name, where it is short enough
-pub name_word : (run bytes : List ℕ) (o l : ℕ) → run ≡ take_while in_word bytes → length run ≤ 31 → None ≡ keyword_of run → Ok (kind_at sorts.Name bytes) ≡ word_kind (take_while in_word bytes) o l
+pub name_word : (run bytes : List ℕ) (o l : ℕ) → run ≡ take_while in_word bytes → length run ≤ 31
+    → None ≡ keyword_of run → Ok (kind_at sorts.Name bytes) ≡ word_kind (take_while in_word bytes) o l
 name_word run bytes o l is short free =
     let few : length (take_while in_word bytes) ≤ 31 = omega (arith, ap length is) in
     let none : keyword_of (take_while in_word bytes) ≡ None = ap keyword_of (sym is) ∙ sym free in
@@ -44,26 +48,40 @@ number_begins : (b : ℕ) (bs : List ℕ) → is_ascii_digit b ≡ true → take
 number_begins b bs digit = take_while-cons is_ascii_digit b bs ∙ rw (digit) refl
 
 module _ (b : ℕ) (bytes bs : List ℕ) (o l : ℕ) (front : bytes ≡ b ∷ bs) where
-  as_word : is_ascii_uppercase b ≡ true → (r : Result TokenKind LexFault) → r ≡ word_kind (take_while in_word bytes) o l → kind_and_rest r o l (drop (length (take_while in_word bs)) bs) ≡ token_at o l b bs
+  as_word : is_ascii_uppercase b ≡ true → (r : Result TokenKind LexFault) → r ≡ word_kind (take_while in_word bytes) o l
+      → kind_and_rest r o l (drop (length (take_while in_word bs)) bs) ≡ token_at o l b bs
   as_word up r e =
       let run : take_while in_word bytes ≡ b ∷ take_while in_word bs = ap (take_while in_word) front ∙ word_begins b bs up in
       ap (λ z. kind_and_rest z o l (drop (length (take_while in_word bs)) bs)) (e ∙ ap (λ z. word_kind z o l) run) ∙ sym (rw (up) refl)
 
-  as_number : is_ascii_uppercase b ≡ false → is_ascii_digit b ≡ true → (r : Result TokenKind LexFault) → r ≡ number_kind (take_while is_ascii_digit bytes) o l → kind_and_rest r o l (drop (length (take_while is_ascii_digit bs)) bs) ≡ token_at o l b bs
+  as_number : is_ascii_uppercase b ≡ false → is_ascii_digit b ≡ true → (r : Result TokenKind LexFault)
+      → r ≡ number_kind (take_while is_ascii_digit bytes) o l
+      → kind_and_rest r o l (drop (length (take_while is_ascii_digit bs)) bs) ≡ token_at o l b bs
   as_number low digit r e =
       let run : take_while is_ascii_digit bytes ≡ b ∷ take_while is_ascii_digit bs = ap (take_while is_ascii_digit) front ∙ number_begins b bs digit in
       ap (λ z. kind_and_rest z o l (drop (length (take_while is_ascii_digit bs)) bs)) (e ∙ ap (λ z. number_kind z o l) run) ∙ sym (rw (low, digit) refl)
 
-pub word_piece : (b : ℕ) (bytes bs left : List ℕ) (o l : ℕ) (s : Sort) → bytes ≡ b ∷ bs → is_ascii_uppercase b ≡ true → Ok (kind_at s bytes) ≡ word_kind (take_while in_word bytes) o l → left ≡ drop (length (take_while in_word bs)) bs → Ok (record { kind = kind_at s bytes; line = l; offset = o }, left) ≡ token_at o l b bs
-word_piece b bytes bs left o l s front up e d = ap (λ z. Ok (record { kind = kind_at s bytes; line = l; offset = o }, z)) d ∙ as_word b bytes bs o l front up (Ok (kind_at s bytes)) e
+pub word_piece : (b : ℕ) (bytes bs left : List ℕ) (o l : ℕ) (s : Sort) → bytes ≡ b ∷ bs → is_ascii_uppercase b ≡ true
+    → Ok (kind_at s bytes) ≡ word_kind (take_while in_word bytes) o l → left ≡ drop (length (take_while in_word bs)) bs
+    → Ok (record { kind = kind_at s bytes; line = l; offset = o }, left) ≡ token_at o l b bs
+word_piece b bytes bs left o l s front up e d = ap
+    (λ z. Ok (record { kind = kind_at s bytes; line = l; offset = o }, z)) d
+    ∙ as_word b bytes bs o l front up (Ok (kind_at s bytes)) e
 
-pub word_fault : (b : ℕ) (bytes bs : List ℕ) (o l : ℕ) (f : LexFault) → bytes ≡ b ∷ bs → is_ascii_uppercase b ≡ true → Err f ≡ word_kind (take_while in_word bytes) o l → Err f ≡ token_at o l b bs
+pub word_fault : (b : ℕ) (bytes bs : List ℕ) (o l : ℕ) (f : LexFault) → bytes ≡ b ∷ bs → is_ascii_uppercase b ≡ true
+    → Err f ≡ word_kind (take_while in_word bytes) o l → Err f ≡ token_at o l b bs
 word_fault b bytes bs o l f front up e = as_word b bytes bs o l front up (Err f) e
 
-pub number_piece : (b : ℕ) (bytes bs left : List ℕ) (o l : ℕ) (s : Sort) → bytes ≡ b ∷ bs → is_ascii_uppercase b ≡ false → is_ascii_digit b ≡ true → Ok (kind_at s bytes) ≡ number_kind (take_while is_ascii_digit bytes) o l → left ≡ drop (length (take_while is_ascii_digit bs)) bs → Ok (record { kind = kind_at s bytes; line = l; offset = o }, left) ≡ token_at o l b bs
-number_piece b bytes bs left o l s front low digit e d = ap (λ z. Ok (record { kind = kind_at s bytes; line = l; offset = o }, z)) d ∙ as_number b bytes bs o l front low digit (Ok (kind_at s bytes)) e
+pub number_piece : (b : ℕ) (bytes bs left : List ℕ) (o l : ℕ) (s : Sort) → bytes ≡ b ∷ bs → is_ascii_uppercase b ≡ false
+    → is_ascii_digit b ≡ true → Ok (kind_at s bytes) ≡ number_kind (take_while is_ascii_digit bytes) o l
+    → left ≡ drop (length (take_while is_ascii_digit bs)) bs
+    → Ok (record { kind = kind_at s bytes; line = l; offset = o }, left) ≡ token_at o l b bs
+number_piece b bytes bs left o l s front low digit e d = ap
+    (λ z. Ok (record { kind = kind_at s bytes; line = l; offset = o }, z)) d
+    ∙ as_number b bytes bs o l front low digit (Ok (kind_at s bytes)) e
 
-pub number_fault : (b : ℕ) (bytes bs : List ℕ) (o l : ℕ) (f : LexFault) → bytes ≡ b ∷ bs → is_ascii_uppercase b ≡ false → is_ascii_digit b ≡ true → Err f ≡ number_kind (take_while is_ascii_digit bytes) o l → Err f ≡ token_at o l b bs
+pub number_fault : (b : ℕ) (bytes bs : List ℕ) (o l : ℕ) (f : LexFault) → bytes ≡ b ∷ bs → is_ascii_uppercase b ≡ false
+    → is_ascii_digit b ≡ true → Err f ≡ number_kind (take_while is_ascii_digit bytes) o l → Err f ≡ token_at o l b bs
 number_fault b bytes bs o l f front low digit e = as_number b bytes bs o l front low digit (Err f) e
 
 -- a token that is kept shows its sort, its line and its offset
@@ -81,7 +99,8 @@ sort_again (sorts.Mark m) h =
     let back : 128 + m - 128 ≡ m = omega arith in
     rw (high, back) refl
 
-pub shown_kept : (text : List ℕ) (s : Sort) (o l : ℕ) → IsSmall s → o < OFFSETS → shown text (kept s o l) ≡ record { kind = kind_at s (drop o text); line = l; offset = o }
+pub shown_kept : (text : List ℕ) (s : Sort) (o l : ℕ) → IsSmall s → o < OFFSETS
+    → shown text (kept s o l) ≡ record { kind = kind_at s (drop o text); line = l; offset = o }
 unfolding shown
 shown_kept text s o l small within =
     let offset : (code_of s * OFFSETS + o) % OFFSETS ≡ o = mod-mul-add (code_of s) OFFSETS o within in
@@ -89,8 +108,11 @@ shown_kept text s o l small within =
     rw (offset, code, sort_again s small) refl
 
 -- .. and so does one more at the end of a list
-pub one_more : (text : List ℕ) (spots : List Spot) (s : Sort) (o l : ℕ) → IsSmall s → o < OFFSETS → all_shown text (spots ++ (kept s o l ∷ [])) ≡ all_shown text spots ++ (record { kind = kind_at s (drop o text); line = l; offset = o } ∷ [])
-one_more text spots s o l small within = map-append (shown text) spots (kept s o l ∷ []) ∙ ap (λ t. all_shown text spots ++ (t ∷ [])) (shown_kept text s o l small within)
+pub one_more : (text : List ℕ) (spots : List Spot) (s : Sort) (o l : ℕ) → IsSmall s → o < OFFSETS
+    → all_shown text (spots ++ (kept s o l ∷ [])) ≡ all_shown text spots
+    ++ (record { kind = kind_at s (drop o text); line = l; offset = o } ∷ [])
+one_more text spots s o l small within = map-append (shown text) spots (kept s o l ∷ [])
+    ∙ ap (λ t. all_shown text spots ++ (t ∷ [])) (shown_kept text s o l small within)
 
 -- the line of a token is that which is kept
 pub line_kept : (text : List ℕ) (spots : List Spot) (i : ℕ) (s : Spot) → slice_get spots i ≡ Some s → slice_get (lines (all_shown text spots)) i ≡ Some s.line

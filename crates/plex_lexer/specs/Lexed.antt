@@ -1,11 +1,14 @@
 -- The tokens of a text, by cases on its bytes.
 --
--- A token is made at its first byte, of the longest run or mark that begins there. The bytes that follow are then passed over
--- by a mode, which says what the text before has begun. An offset is counted from the text's length, so that no case adds up.
-use Rattle.std.specs.Prelude.{◌≡◌, ℕ, ◌+◌, ◌-◌, Bool, false, nat_eq, List, [], ◌∷◌, length, take_while, Option, Some, None, Result, Ok, Err, if◌then◌else◌}
+-- A token is made at its first byte, of the longest run or mark that begins there. The bytes that
+-- follow are then passed over by a mode, which says what the text before has begun. An offset is
+-- counted from the text's length, so that no case adds up.
+use Rattle.std.specs.Prelude.{◌≡◌, ℕ, ◌+◌, ◌-◌, Bool, false, nat_eq, List, [], ◌∷◌, length}
+use Rattle.std.specs.Prelude.{take_while, Option, Some, None, Result, Ok, Err, if◌then◌else◌}
 use Rattle.std.specs.Char.{is_ascii_digit, is_ascii_uppercase}
 use Rattle.plex_lexer.specs.declared.fault.LexFault.{LexFault}
-use Rattle.plex_lexer.specs.declared.fault.LexFault.TheVariants.{BadByte, BadNumber, LongName, Memory}
+use Rattle.plex_lexer.specs.declared.fault.LexFault.TheVariants.{BadByte, BadNumber, LongName}
+use Rattle.plex_lexer.specs.declared.fault.LexFault.TheVariants.{Memory}
 use Rattle.plex_lexer.specs.declared.token.Token.{Token}
 use Rattle.plex_lexer.specs.declared.token.TokenKind.{TokenKind}
 use Rattle.plex_lexer.specs.declared.token.TokenKind.TheVariants.{Mark}
@@ -35,23 +38,32 @@ put token (Ok tokens) = Ok (token ∷ tokens)
 put token (Err fault) = Err fault
 
 -- a token of this kind in front of those that follow; a fault here is the first
-abbrev pub with_kind : Result TokenKind LexFault → ℕ → ℕ → Result (List Token) LexFault → Result (List Token) LexFault
-with_kind (Ok kind) offset line more = put (record { kind = kind; line = line; offset = offset }) more
+abbrev pub with_kind : Result TokenKind LexFault → ℕ → ℕ → Result (List Token) LexFault
+    → Result (List Token) LexFault
+with_kind (Ok kind) offset line more =
+    put (record { kind = kind; line = line; offset = offset }) more
 with_kind (Err fault) offset line more = Err fault
 
 -- this mark in front of what follows in its mode; where there is no mark the byte is at fault
-abbrev pub with_mark : Option (ℕ × Bool) → ℕ → ℕ → (Mode → Result (List Token) LexFault) → Result (List Token) LexFault
+abbrev pub with_mark : Option (ℕ × Bool) → ℕ → ℕ → (Mode → Result (List Token) LexFault)
+    → Result (List Token) LexFault
 with_mark None offset line follow = Err (BadByte offset line)
-with_mark (Some mark) offset line follow = put (record { kind = Mark mark.0; line = line; offset = offset }) (follow (if mark.1 then InMark else Between))
+with_mark (Some mark) offset line follow = put
+    (record { kind = Mark mark.0; line = line; offset = offset })
+    (follow (if mark.1 then InMark else Between))
 
--- what begins at the byte b, which those of rest follow; follow gives their tokens, from a mode and a line
-abbrev pub begins : (Mode → ℕ → Result (List Token) LexFault) → ℕ → ℕ → ℕ → List ℕ → Result (List Token) LexFault
+-- what begins at the byte b, which those of rest follow; follow gives their tokens, from a mode and
+-- a line
+abbrev pub begins : (Mode → ℕ → Result (List Token) LexFault) → ℕ → ℕ → ℕ → List ℕ
+    → Result (List Token) LexFault
 begins follow offset line b rest =
     (if nat_eq b 10 then follow Between (line + 1) else
     (if is_blank b then follow Between line else
     (if nat_eq b 33 then follow Comment line else
-    (if is_ascii_uppercase b then with_kind (word_kind (b ∷ take_while in_word rest) offset line) offset line (follow InWord line) else
-    (if is_ascii_digit b then with_kind (number_kind (b ∷ take_while is_ascii_digit rest) offset line) offset line (follow InDigits line) else
+    (if is_ascii_uppercase b then with_kind (word_kind (b ∷ take_while in_word rest) offset line)
+    offset line (follow InWord line) else
+    (if is_ascii_digit b then with_kind (number_kind (b ∷ take_while is_ascii_digit rest) offset
+    line) offset line (follow InDigits line) else
     with_mark (mark_of b rest) offset line (λ mode. follow mode line))))))
 
 -- the tokens of the last bytes of a text of n bytes, or the first fault there

@@ -1,5 +1,6 @@
 -- The marks, numbered `;` `,` `(` `)` `=` `+` `-` `*` `/` `<` `>` `<=` `>=` `<>` from 0.
-use Rattle.std.specs.Prelude.{ℕ, Bool, true, false, ◌&&◌, nat_eq, List, [], ◌∷◌, Option, Some, None, codes, position, if◌then◌else◌}
+use Rattle.std.specs.Prelude.{ℕ, Bool, true, false, ◌&&◌, nat_eq, List, [], ◌∷◌, Option, Some, None}
+use Rattle.std.specs.Prelude.{codes, position, if◌then◌else◌}
 
 -- the number of a mark of one byte
 unfoldable pub single_mark : ℕ → Option ℕ

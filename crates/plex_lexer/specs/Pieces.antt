@@ -1,5 +1,6 @@
 -- One token at a time: the token at a byte, and the bytes after it.
-use Rattle.std.specs.Prelude.{◌≡◌, ℕ, Bool, true, false, List, ◌∷◌, ◌++◌, length, take_while, drop, Option, Some, None, Result, Ok, Err, if◌then◌else◌}
+use Rattle.std.specs.Prelude.{◌≡◌, ℕ, Bool, true, false, List, ◌∷◌, ◌++◌, length, take_while, drop}
+use Rattle.std.specs.Prelude.{Option, Some, None, Result, Ok, Err, if◌then◌else◌}
 use Rattle.std.specs.Char.{is_ascii_digit, is_ascii_uppercase}
 use Rattle.plex_lexer.specs.declared.fault.LexFault.{LexFault}
 use Rattle.plex_lexer.specs.declared.fault.LexFault.TheVariants.{BadByte}
@@ -14,21 +15,28 @@ use Rattle.plex_lexer.specs.Spots.{kind_at}
 use Rattle.plex_lexer.specs.Words.{word_kind, number_kind}
 
 -- a token of this kind, and the bytes left
-abbrev pub kind_and_rest : Result TokenKind LexFault → ℕ → ℕ → List ℕ → Result (Token × List ℕ) LexFault
-kind_and_rest (Ok kind) offset line left = Ok (record { kind = kind; line = line; offset = offset }, left)
+abbrev pub kind_and_rest : Result TokenKind LexFault → ℕ → ℕ → List ℕ
+    → Result (Token × List ℕ) LexFault
+kind_and_rest (Ok kind) offset line left =
+    Ok (record { kind = kind; line = line; offset = offset }, left)
 kind_and_rest (Err fault) offset line left = Err fault
 
 -- a token of this mark, and the bytes left of those after its first
 abbrev pub mark_and_rest : Option (ℕ × Bool) → ℕ → ℕ → List ℕ → Result (Token × List ℕ) LexFault
 mark_and_rest None offset line left = Err (BadByte offset line)
-mark_and_rest (Some (number, true)) offset line left = Ok (record { kind = Mark number; line = line; offset = offset }, drop 1 left)
-mark_and_rest (Some (number, false)) offset line left = Ok (record { kind = Mark number; line = line; offset = offset }, left)
+mark_and_rest (Some (number, true)) offset line left =
+    Ok (record { kind = Mark number; line = line; offset = offset }, drop 1 left)
+mark_and_rest (Some (number, false)) offset line left =
+    Ok (record { kind = Mark number; line = line; offset = offset }, left)
 
 -- the token that begins at the byte b, which those of rest follow, and the bytes after it
 abbrev pub token_at : ℕ → ℕ → ℕ → List ℕ → Result (Token × List ℕ) LexFault
 token_at offset line b rest =
-    (if is_ascii_uppercase b then kind_and_rest (word_kind (b ∷ take_while in_word rest) offset line) offset line (drop (length (take_while in_word rest)) rest) else
-    (if is_ascii_digit b then kind_and_rest (number_kind (b ∷ take_while is_ascii_digit rest) offset line) offset line (drop (length (take_while is_ascii_digit rest)) rest) else
+    (if is_ascii_uppercase b then kind_and_rest
+    (word_kind (b ∷ take_while in_word rest) offset line) offset line
+    (drop (length (take_while in_word rest)) rest) else
+    (if is_ascii_digit b then kind_and_rest (number_kind (b ∷ take_while is_ascii_digit rest) offset
+    line) offset line (drop (length (take_while is_ascii_digit rest)) rest) else
     mark_and_rest (mark_of b rest) offset line rest))
 
 -- the tokens of a text of n bytes from this one on
@@ -41,9 +49,12 @@ abbrev pub with_tokens : List Token → Result (List Token) LexFault → Result 
 with_tokens front (Ok tokens) = Ok (front ++ tokens)
 with_tokens front (Err fault) = Err fault
 
--- a token told by its sort, which begins with these bytes, and the bytes after it, which a reference lends
-abbrev pub seen : {R : Type 0} → (R → List ℕ) → List ℕ → ℕ → ℕ → Result (Sort × R) LexFault → Result (Token × List ℕ) LexFault
-seen view bytes offset line (Ok piece) = Ok (record { kind = kind_at piece.0 bytes; line = line; offset = offset }, view piece.1)
+-- a token told by its sort, which begins with these bytes, and the bytes after it, which a
+-- reference lends
+abbrev pub seen : {R : Type 0} → (R → List ℕ) → List ℕ → ℕ → ℕ → Result (Sort × R) LexFault
+    → Result (Token × List ℕ) LexFault
+seen view bytes offset line (Ok piece) =
+    Ok (record { kind = kind_at piece.0 bytes; line = line; offset = offset }, view piece.1)
 seen view bytes offset line (Err fault) = Err fault
 
 -- bytes are the last ones of a text

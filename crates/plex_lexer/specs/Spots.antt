@@ -1,5 +1,6 @@
 -- Tokens as they are kept, and what each shows of its text.
-use Rattle.std.specs.Prelude.{ℕ, ◌+◌, ◌-◌, ◌*◌, ◌/◌, ◌%◌, ◌<◌, nat_eq, nat_lt, List, [], take, drop, map, take_while, Option, Some, None, Result, Ok, Err, if◌then◌else◌}
+use Rattle.std.specs.Prelude.{ℕ, ◌+◌, ◌-◌, ◌*◌, ◌/◌, ◌%◌, ◌<◌, nat_eq, nat_lt, List, [], take, drop}
+use Rattle.std.specs.Prelude.{map, take_while, Option, Some, None, Result, Ok, Err, if◌then◌else◌}
 use Rattle.std.specs.Char.{is_ascii_digit}
 use Rattle.plex_num.specs.Number.{number_of}
 use Rattle.plex_lexer.specs.declared.fault.LexFault.{LexFault}
@@ -81,7 +82,11 @@ spot_sort spot = sort_by (spot.place / OFFSETS)
 
 -- the token of a text that is kept so
 unfoldable pub shown : List ℕ → Spot → Token
-shown text spot = record { kind = kind_at (spot_sort spot) (drop (offset_of spot) text); line = spot.line; offset = offset_of spot }
+shown text spot = record {
+  kind = kind_at (spot_sort spot) (drop (offset_of spot) text);
+  line = spot.line;
+  offset = offset_of spot;
+}
 
 -- the tokens of a text that are kept so
 abbrev pub all_shown : List ℕ → List Spot → List Token

@@ -1,5 +1,6 @@
 -- What runs of letters and digits say.
-use Rattle.std.specs.Prelude.{ℕ, nat_lt, List, length, Option, Some, None, Result, Ok, Err, if◌then◌else◌}
+use Rattle.std.specs.Prelude.{ℕ, nat_lt, List, length, Option, Some, None, Result, Ok, Err}
+use Rattle.std.specs.Prelude.{if◌then◌else◌}
 use Rattle.name_tables.specs.Names.{keyword_names}
 use Rattle.name_tables.specs.Rows.{place_of}
 use Rattle.plex_num.specs.Number.{number_of}
@@ -19,7 +20,8 @@ keyword_or_name run None = Name run
 
 -- a run that begins with a letter; over 31 bytes it is at fault
 abbrev pub word_kind : List ℕ → ℕ → ℕ → Result TokenKind LexFault
-word_kind run offset line = (if nat_lt 31 (length run) then Err (LongName offset line) else Ok (keyword_or_name run (keyword_of run)))
+word_kind run offset line = (if nat_lt 31 (length run) then Err (LongName offset line)
+    else Ok (keyword_or_name run (keyword_of run)))
 
 -- a run of digits that is no number is at fault
 abbrev pub number_or_fault : Option ℕ → ℕ → ℕ → Result TokenKind LexFault

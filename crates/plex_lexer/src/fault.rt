@@ -1,7 +1,7 @@
 use thiserror::Error;
 
-/// Why a text has no tokens: its first bad place, as an offset (the number of bytes before it) and a line (from 1), or
-/// that memory was refused.
+/// Why a text has no tokens: its first bad place, as an offset (the number of bytes before it) and
+/// a line (from 1), or that memory was refused.
 #[derive(Debug, Drop, Error)]
 pub enum LexFault {
     #[error("line {line}: a byte that begins no token")]

@@ -1,10 +1,10 @@
 // Tokens of a text.
 //
-// What goes in: the bytes of a text. What comes out: its tokens, each with its line and its offset, or
-// the first place that begins no token. The parser stands on the contract of `lex`, which says which, and
-// reads them by a `Cursor`. A token is kept in eight bytes, as what sort it is, where it begins and its line;
-// contracts see a list of whole tokens.
-// It knows no sentence: any list of tokens is an answer.
+// What goes in: the bytes of a text. What comes out: its tokens, each with its line and its offset,
+// or the first place that begins no token. The parser stands on the contract of `lex`, which says
+// which, and reads them by a `Cursor`. A token is kept in eight bytes, as what sort it is, where it
+// begins and its line; contracts see a list of whole tokens. It knows no sentence: any list of
+// tokens is an answer.
 #![tactic(auto)]
 
 mod cursor;

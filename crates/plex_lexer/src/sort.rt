@@ -1,4 +1,5 @@
-/// What sort of word a token is: a name, a number, the keyword of this number, or the mark of this number.
+/// What sort of word a token is: a name, a number, the keyword of this number, or the mark of this
+/// number.
 #[derive(Clone, Copy)]
 pub enum Sort {
     Name,

@@ -33,7 +33,8 @@ fn keyword(run: &[u8], keywords: &[Row; 56]) -> Option<u8>
     }
 }
 
-/// What the run of letters and digits is with which these bytes begin: a keyword or a name of at most 31 bytes.
+/// What the run of letters and digits is with which these bytes begin: a keyword or a name of at
+/// most 31 bytes.
 #[tactic(auto, using(crate::proofs::SortedTokens::name_word))]
 pub fn word(bytes: &[u8], offset: u32, line: u32, keywords: &[Row; 56]) -> Result<Sort, LexFault>
     requires { names_of keywords.now ≡ keyword_names }

@@ -1,7 +1,7 @@
 // How large the parts of a text, of an exchange and of a job may be.
 //
-// What comes out: one named number for each limit, which definitions and code cite alike. It knows nothing of what is
-// counted.
+// What comes out: one named number for each limit, which definitions and code cite alike. It knows
+// nothing of what is counted.
 #![tactic(auto)]
 
 mod limits;

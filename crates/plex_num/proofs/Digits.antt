@@ -1,5 +1,7 @@
 -- Reading digits from the front.
-use Rattle.std.proofs.Common.{◌≡◌, ℕ, Bool, true, false, ◌&&◌, ◌+◌, ◌*◌, ◌-◌, ◌^◌, ◌<◌, ◌≤◌, List, ◌∷◌, length, drop, get_or, Option, Some, None, refl, sym, ◌∙◌, arith, add-one, if◌then◌else◌}
+use Rattle.std.proofs.Common.{◌≡◌, ℕ, Bool, true, false, ◌&&◌, ◌+◌, ◌*◌, ◌-◌, ◌^◌, ◌<◌, ◌≤◌, List}
+use Rattle.std.proofs.Common.{◌∷◌, length, drop, get_or, Option, Some, None, refl, sym, ◌∙◌, arith}
+use Rattle.std.proofs.Common.{add-one, if◌then◌else◌}
 use Rattle.std.proofs.lemmas.List.{drop_more, drop_all}
 use Rattle.std.proofs.lemmas.Bool.{lt-ltb, lt-leb, le-leb, ltb-true}
 use Rattle.std.proofs.lemmas.Option.{none-some, same_Some}
@@ -15,13 +17,16 @@ unfolding digits_from
 digits_cons n b rest = refl
 
 -- a digit more
-pub digits_step : (text : List ℕ) (i n b m : ℕ) (o : Option ℕ) → i < length text → b ≡ get_or text i 0 → is_ascii_digit b ≡ true → m ≡ n * 10 + (b - 48) → digits_from n (drop i text) ≡ o → digits_from m (drop (i + 1) text) ≡ o
+pub digits_step : (text : List ℕ) (i n b m : ℕ) (o : Option ℕ) → i < length text → b ≡ get_or text i 0
+    → is_ascii_digit b ≡ true → m ≡ n * 10 + (b - 48) → digits_from n (drop i text) ≡ o
+    → digits_from m (drop (i + 1) text) ≡ o
 digits_step text i n b m o lt is digit make e =
     let more : digits_from n (drop i text) ≡ digits_from m (drop (i + 1) text) = rw (drop_more text i 0 lt, ← is, digits_cons, digit, make) refl in
     sym more ∙ e
 
 -- a byte that is no digit
-pub digits_stop : (text : List ℕ) (i n b : ℕ) (o : Option ℕ) → i < length text → b ≡ get_or text i 0 → is_ascii_digit b ≡ false → digits_from n (drop i text) ≡ o → None ≡ o
+pub digits_stop : (text : List ℕ) (i n b : ℕ) (o : Option ℕ) → i < length text → b ≡ get_or text i 0
+    → is_ascii_digit b ≡ false → digits_from n (drop i text) ≡ o → None ≡ o
 digits_stop text i n b o lt is digit e =
     let more : digits_from n (drop i text) ≡ None = rw (drop_more text i 0 lt, ← is, digits_cons, digit) refl in
     sym more ∙ e

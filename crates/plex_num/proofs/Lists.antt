@@ -1,5 +1,8 @@
 -- Small facts of lists: what stands at a place, what holds of all, and how they are put together.
-use Rattle.std.proofs.Common.{◌≡◌, ◌⊎◌, inl, inr, ⊎_elim, ℕ, zero, suc, ◌+◌, ◌-◌, ◌<◌, ◌≤◌, Bool, ◌||◌, not, cond, List, [], ◌∷◌, ◌++◌, length, drop, map, replicate, get_or, position, Some, slice_get, slice_set, refl, sym, subst, ap, ◌∙◌, arith}
+use Rattle.std.proofs.Common.{◌≡◌, ◌⊎◌, inl, inr, ⊎_elim, ℕ, zero, suc, ◌+◌, ◌-◌, ◌<◌, ◌≤◌, Bool}
+use Rattle.std.proofs.Common.{◌||◌, not, cond, List, [], ◌∷◌, ◌++◌, length, drop, map, replicate}
+use Rattle.std.proofs.Common.{get_or, position, Some, slice_get, slice_set, refl, sym, subst, ap}
+use Rattle.std.proofs.Common.{◌∙◌, arith}
 use Rattle.std.proofs.lemmas.List.{append_assoc, drop_more, length-map}
 use Rattle.std.proofs.lemmas.List.Recursion.{same_from_clauses}
 use Rattle.std.proofs.lemmas.Option.{none-some, same_Some, slice_get-map, slice_get_past}
@@ -137,7 +140,8 @@ any_map f p (x ∷ xs) = ap (λ b. p (f x) || b) (any_map f p xs)
 
 pub position_map : {A B : Type 0} (f : A → B) (p : B → Bool) (xs : List A) → position p (map f xs) ≡ position (λ x. p (f x)) xs
 position_map {A = A} f p xs =
-    let same = same_from_clauses (λ (ys : List A). position_or_len p (map f ys)) (position_or_len (λ (x : A). p (f x))) (λ (x : A) (n : ℕ). cond (not (p (f x))) (1 + n) 0) refl (λ x ys. refl) (λ x ys. refl) xs in
+    let same = same_from_clauses (λ (ys : List A). position_or_len p (map f ys)) (position_or_len (λ (x : A). p (f x)))
+    (λ (x : A) (n : ℕ). cond (not (p (f x))) (1 + n) 0) refl (λ x ys. refl) (λ x ys. refl) xs in
     rw (same, length-map xs f) refl
 
 -- lists that are put together in two steps

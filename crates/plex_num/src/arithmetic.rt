@@ -1,5 +1,6 @@
 // The arithmetic of the language: unsigned numbers of 32 bits, modulo 2^32.
-ghost use Rattle.std.specs.Prelude.{◌≡◌, ◌+◌, ◌-◌, ◌*◌, ◌/◌, ◌%◌, ◌^◌, ◌<◌, ◌↔◌, IsTrue, MatchOption, slice_index};
+ghost use Rattle.std.specs.Prelude.{◌≡◌, ◌+◌, ◌-◌, ◌*◌, ◌/◌, ◌%◌, ◌^◌, ◌<◌, ◌↔◌, IsTrue};
+ghost use Rattle.std.specs.Prelude.{MatchOption, slice_index};
 
 /// The sum, modulo 2^32.
 pub fn add(a: u32, b: u32) -> u32

@@ -1,10 +1,9 @@
 // Small types, numbers and lists, on which every crate of plex stands.
 //
-// What comes out: `Seq`, the list that contracts see as a list; `Name` and `Values`, lists of
-// fixed capacity that take no memory; numbers of 32 bits with the language's arithmetic; the one way
-// in which a number is read from a text and written to one; and `Seed`, by which a table of names
-// puts its keys where no text can choose.
-// It knows nothing of signals, blocks or texts.
+// What comes out: `Seq`, the list that contracts see as a list; `Name` and `Values`, lists of fixed
+// capacity that take no memory; numbers of 32 bits with the language's arithmetic; the one way in
+// which a number is read from a text and written to one; and `Seed`, by which a table of names puts
+// its keys where no text can choose. It knows nothing of signals, blocks or texts.
 #![tactic(auto)]
 
 mod arithmetic;

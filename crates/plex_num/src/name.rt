@@ -1,9 +1,11 @@
-ghost use Rattle.std.specs.Prelude.{◌≡◌, ◌<◌, ◌≤◌, ◌++◌, ◌∷◌, [], List, ℕ, length, remove, slice_get, Some};
+ghost use Rattle.std.specs.Prelude.{◌≡◌, ◌<◌, ◌≤◌, ◌++◌, ◌∷◌, [], List, ℕ, length, remove};
+ghost use Rattle.std.specs.Prelude.{slice_get, Some};
 
 use arrayvec::ArrayVec;
 use std::marker::Model;
 
-/// A name: at most 31 bytes, which contracts see as a list of bytes. None of its calls takes memory.
+/// A name: at most 31 bytes, which contracts see as a list of bytes. None of its calls takes
+/// memory.
 #[derive(Debug, Drop, PartialEq, Eq, Hash)]
 pub struct Name {
     bytes: ArrayVec<u8, 31>,

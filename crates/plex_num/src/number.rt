@@ -6,7 +6,8 @@ ghost use Rattle.plex_num.specs.Number.{digits_from, number_of};
 use crate::seq::{Memory, Seq};
 use itoa::Buffer;
 
-/// The number that the text is: 1 to 10 digits with a value below 2^32; `None` for every other text.
+/// The number that the text is: 1 to 10 digits with a value below 2^32; `None` for every other
+/// text.
 #[tactic(auto, using(crate::proofs::Digits::numbers_told))]
 pub fn read_number(text: &[u8]) -> Option<u32>
     ensures { result ≡ number_of text.now }
@@ -40,7 +41,8 @@ fn read_digits(text: &[u8]) -> Option<u64>
     Some(value)
 }
 
-/// Appends the number in decimal digits, with no leading zero; where memory is refused, the list stays as it was.
+/// Appends the number in decimal digits, with no leading zero; where memory is refused, the list
+/// stays as it was.
 pub fn print_number(value: u64, text: &mut Seq<u8>) -> Result<(), Memory>
     ensures { MatchResult result
         (λ _. text.new ≡ text.old ++ decimal value)

@@ -5,8 +5,9 @@ ghost use Rattle.std.specs.Hash.FoldHasher as folding;
 
 use std::hash::{BuildHasher, DefaultHasher, FoldHasher, Hasher};
 
-/// What the places of a table's keys hang on, besides the keys. It is drawn from all keys that a text has, so that whoever
-/// chooses keys that would meet under one seed changes the seed by that choice. No answer of a table hangs on it.
+/// What the places of a table's keys hang on, besides the keys. It is drawn from all keys that a
+/// text has, so that whoever chooses keys that would meet under one seed changes the seed by that
+/// choice. No answer of a table hangs on it.
 #[derive(Clone, Copy)]
 pub struct Seed {
     number: u64,

@@ -1,5 +1,6 @@
 // Lists.
-ghost use Rattle.std.specs.Prelude.{◌≡◌, ◌<◌, ◌≤◌, ◌++◌, ◌∷◌, [], List, length, take, slice_get, slice_set, MatchResult, MatchOption, IfOk, OnOk, OnErr, Some};
+ghost use Rattle.std.specs.Prelude.{◌≡◌, ◌<◌, ◌≤◌, ◌++◌, ◌∷◌, [], List, length, take, slice_get};
+ghost use Rattle.std.specs.Prelude.{slice_set, MatchResult, MatchOption, IfOk, OnOk, OnErr, Some};
 
 use std::alloc::Global;
 use std::marker::Model;

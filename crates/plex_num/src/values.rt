@@ -1,10 +1,12 @@
-ghost use Rattle.std.specs.Prelude.{◌≡◌, ◌<◌, ◌≤◌, ◌++◌, ◌∷◌, [], List, ℕ, length, remove, slice_get, Some};
+ghost use Rattle.std.specs.Prelude.{◌≡◌, ◌<◌, ◌≤◌, ◌++◌, ◌∷◌, [], List, ℕ, length, remove};
+ghost use Rattle.std.specs.Prelude.{slice_get, Some};
 
 use arrayvec::ArrayVec;
 use plex_limits::MOST_VALUES;
 use std::marker::Model;
 
-/// The values of a signal: at most 8 numbers, which contracts see as a list. None of its calls takes memory.
+/// The values of a signal: at most 8 numbers, which contracts see as a list. None of its calls
+/// takes memory.
 #[derive(Drop)]
 pub struct Values {
     numbers: ArrayVec<u32, MOST_VALUES>,

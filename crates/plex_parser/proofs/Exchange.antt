@@ -1,5 +1,6 @@
 -- A whole exchange is read exactly.
-use Rattle.std.proofs.Common.{◌≡◌, ℕ, ◌<◌, true, List, [], ◌∷◌, ◌++◌, Ok, Err, Result, refl, sym, ◌∙◌, ap, subst}
+use Rattle.std.proofs.Common.{◌≡◌, ℕ, ◌<◌, true, List, [], ◌∷◌, ◌++◌, Ok, Err, Result, refl, sym}
+use Rattle.std.proofs.Common.{◌∙◌, ap, subst}
 use Rattle.plex_lexer.specs.declared.token.Token.{Token}
 use Rattle.token_grammar.specs.Language.{Lang, ◌·◌, each, line_at}
 use Rattle.token_grammar.specs.Reading.{Stuck, all_read, ◌>>=◌}
@@ -25,7 +26,8 @@ lists b n p = each (signal true) p.0 · each (block true b n) p.1
 
 pub Exact-lists : (b m c n : ℕ) → b < c → m < n → Exact (lists b m) (lists c n) (SIGNAL ++ BLOCK) true (SIGNAL ++ BLOCK) (lists_read b m) (lists_read c n)
 unfolding lists_read
-Exact-lists b m c n h k = Exact-weak (SIGNAL ++ BLOCK) (SIGNAL ++ BLOCK) (Exact-pair (Exact-many Exact-signal refl) (Exact-many (Exact-block b c h m n k) refl) refl) refl refl
+Exact-lists b m c n h k = Exact-weak (SIGNAL ++ BLOCK) (SIGNAL ++ BLOCK)
+    (Exact-pair (Exact-many Exact-signal refl) (Exact-many (Exact-block b c h m n k) refl) refl) refl refl
 
 -- .. and by its tree, with the line
 tree_of_lists : (b n : ℕ) (p : Lists) (u : List Token) → lists b n p u → (x : Tree) × tree true b n x u
@@ -59,17 +61,21 @@ lists_told = all_told lists lists_read (SIGNAL ++ BLOCK) (SIGNAL ++ BLOCK) true 
 -- what a parser that does what tree_read does has told
 pub tree_again : (b n : ℕ) (x : Tree) (u : List Token) → tree true b n x u → all_read (tree_read b n u) ≡ Ok x
 tree_again b n x u h =
-    tree_is b n u ∙ ap (tree_with (line_at u)) (lists_again b n (x.signals, x.blocks) u h.0) ∙ ap (λ (y : Tree). Ok y) (λ i. record { line = sym (h.1 refl) i; signals = x.signals; blocks = x.blocks })
+    tree_is b n u ∙ ap (tree_with (line_at u)) (lists_again b n (x.signals, x.blocks) u h.0)
+    ∙ ap (λ (y : Tree). Ok y) (λ i. record { line = sym (h.1 refl) i; signals = x.signals; blocks = x.blocks })
 
 pub tree_sound : (b n : ℕ) (x : Tree) (u : List Token) → all_read (tree_read b n u) ≡ Ok x → tree true b n x u
 tree_sound b n x u h = of (all_read (lists_read b n u)) refl (sym (tree_is b n u) ∙ h)
   where
     of : (z : Result Lists Stuck) → all_read (lists_read b n u) ≡ z → tree_with (line_at u) z ≡ Ok x → tree true b n x u
-    of (Ok p) e k = let same : tree_made (line_at u) p ≡ x = ok_same (tree_made (line_at u) p) x (Ok x) (sym k) refl in subst (λ y. tree true b n y u) same (lists_sound b n p u e, λ _. refl)
+    of (Ok p) e k = let same : tree_made (line_at u) p
+        ≡ x = ok_same (tree_made (line_at u) p) x (Ok x) (sym k) refl in subst (λ y. tree true b n y u) same
+        (lists_sound b n p u e, λ _. refl)
     of (Err e) d k = absurd (ok_err x e (Ok x) refl (sym k))
 
 pub tree_told : (b n : ℕ) (u : List Token) (e : Stuck) → all_read (tree_read b n u) ≡ Err e → Told (tree true) b n u e.left e.deep
-tree_told b n u e h = told_same lists (tree true) tree_of_lists lists_of_tree b n u e.left e.deep (of (all_read (lists_read b n u)) refl (sym (tree_is b n u) ∙ h))
+tree_told b n u e h = told_same lists (tree true) tree_of_lists lists_of_tree b n u e.left e.deep
+    (of (all_read (lists_read b n u)) refl (sym (tree_is b n u) ∙ h))
   where
     of : (z : Result Lists Stuck) → all_read (lists_read b n u) ≡ z → tree_with (line_at u) z ≡ Err e → Told lists b n u e.left e.deep
     of (Ok p) d k = absurd (ok_err (tree_made (line_at u) p) e (Err e) (sym k) refl)

@@ -1,5 +1,7 @@
--- The function that the parser computes answers a tree exactly where the tokens spell it, and else their one fault.
-use Rattle.std.proofs.Common.{◌≡◌, ◌↔◌, ℕ, zero, suc, Bool, true, false, List, length, Ok, Err, Result, refl, ap, subst}
+-- The function that the parser computes answers a tree exactly where the tokens spell it, and else
+-- their one fault.
+use Rattle.std.proofs.Common.{◌≡◌, ◌↔◌, ℕ, zero, suc, Bool, true, false, List, length, Ok, Err}
+use Rattle.std.proofs.Common.{Result, refl, ap, subst}
 use Rattle.plex_limits.specs.declared.limits.TheConstants.{MOST_BRACKETS, MOST_NESTED}
 use Rattle.plex_lexer.specs.declared.token.Token.{Token}
 use Rattle.token_grammar.specs.Reading.{Stuck}
@@ -9,7 +11,8 @@ use Rattle.token_grammar.proofs.OneFault.{no_first, sentence_begun, one_first, n
 use Rattle.plex_ast.specs.declared.tree.Tree.{Tree}
 use Rattle.plex_ast.specs.Grammar.{tree}
 use Rattle.plex_parser.specs.declared.parser.ParseFault.{ParseFault}
-use Rattle.plex_parser.specs.declared.parser.ParseFault.TheVariants.{Unexpected, Ended, TooDeep, Memory}
+use Rattle.plex_parser.specs.declared.parser.ParseFault.TheVariants.{Unexpected, Ended, TooDeep}
+use Rattle.plex_parser.specs.declared.parser.ParseFault.TheVariants.{Memory}
 use Rattle.plex_parser.specs.Parses.{tree_of, fault_of, told, parsed, Parses, Yields, Answers}
 use Rattle.plex_parser.proofs.Exchange.{tree_again, tree_sound, tree_told}
 
@@ -27,7 +30,8 @@ tree_one w t s h k = ok_same t s (tree_of w) h (spelled_tree w s k)
 tree_none : (w : List Token) (e : Stuck) (s : Tree) → tree_of w ≡ Err e → tree true MOST_BRACKETS MOST_NESTED s w → ⊥
 tree_none w e s h k = ok_err s e (tree_of w) (spelled_tree w s k) h
 
-pub fault_told : (w : List Token) (left : ℕ) (deep : Bool) → tree_of w ≡ Err (record { left = left; deep = deep }) → Parses (Err (fault_of (length w) left deep)) w
+pub fault_told : (w : List Token) (left : ℕ) (deep : Bool) → tree_of w ≡ Err (record { left = left; deep = deep })
+    → Parses (Err (fault_of (length w) left deep)) w
 unfolding tree_of
 fault_told w zero deep h = tree_told MOST_BRACKETS MOST_NESTED w _ h
 fault_told w (suc n) true h = tree_told MOST_BRACKETS MOST_NESTED w _ h
@@ -40,7 +44,8 @@ pub parsed_tree : (w : List Token) (t : Tree) → tree_of w ≡ Ok t → parsed 
 unfolding parsed
 parsed_tree w t h = ap (told (length w)) h
 
-pub parsed_fault : (w : List Token) (left : ℕ) (deep : Bool) → tree_of w ≡ Err (record { left = left; deep = deep }) → parsed w ≡ Err (fault_of (length w) left deep)
+pub parsed_fault : (w : List Token) (left : ℕ) (deep : Bool) → tree_of w ≡ Err (record { left = left; deep = deep })
+    → parsed w ≡ Err (fault_of (length w) left deep)
 unfolding parsed
 parsed_fault w left deep h = ap (told (length w)) h
 
@@ -88,16 +93,20 @@ module _ (w : List Token) where
 
   too_deep : (i : ℕ) (r : Result Tree ParseFault) → parsed w ≡ r → IsTooDeep (tree true) MOST_BRACKETS MOST_NESTED w i → r ≡ Err (TooDeep i)
   unfolding parsed
-  too_deep i (Ok t) h e = absurd (no_first (tree true MOST_BRACKETS MOST_NESTED) w i (sentence_begun (tree true MOST_BRACKETS MOST_NESTED) w t (parsed_holds w (Ok t) h)) e.first)
+  too_deep i (Ok t) h e = absurd (no_first (tree true MOST_BRACKETS MOST_NESTED) w i
+      (sentence_begun (tree true MOST_BRACKETS MOST_NESTED) w t (parsed_holds w (Ok t) h)) e.first)
   too_deep i (Err (Unexpected j)) h e = absurd (not_both (tree true) MOST_BRACKETS MOST_NESTED w j i (parsed_holds w (Err (Unexpected j)) h) e)
   too_deep i (Err Ended) h e = absurd (no_first (tree true MOST_BRACKETS MOST_NESTED) w i (parsed_holds w (Err Ended) h).front e.first)
-  too_deep i (Err (TooDeep j)) h e = ap (λ k. Err (TooDeep k)) (one_first (tree true MOST_BRACKETS MOST_NESTED) w j i (parsed_holds w (Err (TooDeep j)) h).first e.first)
+  too_deep i (Err (TooDeep j)) h e = ap (λ k. Err (TooDeep k))
+      (one_first (tree true MOST_BRACKETS MOST_NESTED) w j i (parsed_holds w (Err (TooDeep j)) h).first e.first)
   too_deep i (Err Memory) h e = absurd (never_memory (length w) (tree_of w) h)
 
   unexpected : (i : ℕ) (r : Result Tree ParseFault) → parsed w ≡ r → IsUnexpected (tree true) MOST_BRACKETS MOST_NESTED w i → r ≡ Err (Unexpected i)
   unfolding parsed
-  unexpected i (Ok t) h e = absurd (no_first (tree true MOST_BRACKETS MOST_NESTED) w i (sentence_begun (tree true MOST_BRACKETS MOST_NESTED) w t (parsed_holds w (Ok t) h)) e.first)
-  unexpected i (Err (Unexpected j)) h e = ap (λ k. Err (Unexpected k)) (one_first (tree true MOST_BRACKETS MOST_NESTED) w j i (parsed_holds w (Err (Unexpected j)) h).first e.first)
+  unexpected i (Ok t) h e = absurd (no_first (tree true MOST_BRACKETS MOST_NESTED) w i
+      (sentence_begun (tree true MOST_BRACKETS MOST_NESTED) w t (parsed_holds w (Ok t) h)) e.first)
+  unexpected i (Err (Unexpected j)) h e = ap (λ k. Err (Unexpected k))
+      (one_first (tree true MOST_BRACKETS MOST_NESTED) w j i (parsed_holds w (Err (Unexpected j)) h).first e.first)
   unexpected i (Err Ended) h e = absurd (no_first (tree true MOST_BRACKETS MOST_NESTED) w i (parsed_holds w (Err Ended) h).front e.first)
   unexpected i (Err (TooDeep j)) h e = absurd (not_both (tree true) MOST_BRACKETS MOST_NESTED w i j e (parsed_holds w (Err (TooDeep j)) h))
   unexpected i (Err Memory) h e = absurd (never_memory (length w) (tree_of w) h)

@@ -3,7 +3,8 @@ use Rattle.std.specs.Prelude.{ℕ, List, ◌++◌, Option, Some, None}
 use Rattle.plex_lexer.specs.declared.token.Token.{Token}
 use Rattle.token_grammar.specs.declared.named.Named.{Named}
 use Rattle.token_grammar.specs.Language.{NAME}
-use Rattle.token_grammar.specs.Reading.{Reader, word_of, many, branch, lined, after, ended, pair, name_read}
+use Rattle.token_grammar.specs.Reading.{Reader, word_of, many, branch, lined, after, ended, pair}
+use Rattle.token_grammar.specs.Reading.{name_read}
 use Rattle.plex_ast.specs.declared.expr.Expr.{Expr}
 use Rattle.plex_ast.specs.declared.stmt.Names.{Names}
 use Rattle.plex_ast.specs.declared.stmt.StmtKind.{StmtKind}
@@ -18,12 +19,14 @@ use Rattle.plex_ast.specs.declared.tree.Tree.{Tree}
 use Rattle.plex_ast.specs.Words.{SIGNAL, BLOCK, PROGRAM, END, ENTER, SEMI, CLOSE}
 use Rattle.declaration_parser.specs.Declarations.{decls_read, surveys_read}
 use Rattle.declaration_parser.specs.Signals.{signal_read}
-use Rattle.plex_parser.specs.Statements.{assigned_read, assign_made, taken_read, PLAIN, HELD, other_at, body_read}
+use Rattle.plex_parser.specs.Statements.{assigned_read, assign_made, taken_read, PLAIN, HELD}
+use Rattle.plex_parser.specs.Statements.{other_at, body_read}
 
 -- items: a name may begin a label or an assignment, and what follows the name tells
 
 unfoldable pub name_tail_read : ℕ → Reader (Option (Option Named × Expr))
-name_tail_read b = branch CLOSE (lined (λ _ (t : Token). None) (word_of CLOSE)) (lined (λ _ (p : Option Named × Expr). Some p) (assigned_read b))
+name_tail_read b = branch CLOSE (lined (λ _ (t : Token). None) (word_of CLOSE))
+    (lined (λ _ (p : Option Named × Expr). Some p) (assigned_read b))
 
 abbrev pub stmt_item : ℕ → StmtKind → ItemKind
 stmt_item line k = items.Stmt (record { line = line; kind = k })
@@ -40,7 +43,8 @@ unfoldable pub name_item_read : ℕ → Reader ItemKind
 name_item_read b = lined name_item (pair name_read (name_tail_read b))
 
 unfoldable pub enter_read : Reader ItemKind
-enter_read = lined (λ _ (p : Named × Option Names). items.Enter p.0 p.1) (after ENTER (pair name_read (ended taken_read SEMI)))
+enter_read = lined (λ _ (p : Named × Option Names). items.Enter p.0 p.1)
+    (after ENTER (pair name_read (ended taken_read SEMI)))
 
 unfoldable pub stmt_item_read : ℕ → ℕ → Reader ItemKind
 stmt_item_read b n = lined stmt_item (other_at b n (body_read b n))
@@ -69,7 +73,14 @@ abbrev pub Parts : Type 0
 Parts = Named × (List Decl × (List Survey × (List Item × ℕ)))
 
 abbrev pub block_made : ℕ → Parts → Block
-block_made line p = record { line = line; name = p.0; decls = p.1.0; surveys = p.1.1.0; items = p.1.1.1.0; end_line = p.1.1.1.1 }
+block_made line p = record {
+  line = line;
+  name = p.0;
+  decls = p.1.0;
+  surveys = p.1.1.0;
+  items = p.1.1.1.0;
+  end_line = p.1.1.1.1;
+}
 
 abbrev pub parts_read : ℕ → ℕ → Reader (List Decl × (List Survey × (List Item × ℕ)))
 parts_read b n = pair decls_read (pair surveys_read (program_read b n))

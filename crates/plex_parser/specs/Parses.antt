@@ -1,5 +1,6 @@
 -- What the parser answers, within the limits of nesting.
-use Rattle.std.specs.Prelude.{◌≡◌, ℕ, zero, suc, ◌-◌, Bool, true, false, List, length, Result, Ok, Err}
+use Rattle.std.specs.Prelude.{◌≡◌, ℕ, zero, suc, ◌-◌, Bool, true, false, List, length, Result, Ok}
+use Rattle.std.specs.Prelude.{Err}
 use Rattle.plex_limits.specs.declared.limits.TheConstants.{MOST_BRACKETS, MOST_NESTED}
 use Rattle.plex_lexer.specs.declared.token.Token.{Token}
 use Rattle.token_grammar.specs.Reading.{Stuck, all_read}
@@ -7,7 +8,8 @@ use Rattle.token_grammar.specs.Faults.{IsUnexpected, IsTooDeep, IsEnded}
 use Rattle.plex_ast.specs.declared.tree.Tree.{Tree}
 use Rattle.plex_ast.specs.Grammar.{tree, Sentence}
 use Rattle.plex_parser.specs.declared.parser.ParseFault.{ParseFault}
-use Rattle.plex_parser.specs.declared.parser.ParseFault.TheVariants.{Unexpected, Ended, TooDeep, Memory}
+use Rattle.plex_parser.specs.declared.parser.ParseFault.TheVariants.{Unexpected, Ended, TooDeep}
+use Rattle.plex_parser.specs.declared.parser.ParseFault.TheVariants.{Memory}
 use Rattle.plex_parser.specs.Blocks.{tree_read}
 
 -- the tree that the tokens spell, or where the reading of them stops

@@ -1,11 +1,14 @@
--- The grammar of statements, read by descent with one token of sight.
--- A name may begin an assignment to a variable or to a field: what follows the name tells. So does what follows a condition.
+-- The grammar of statements, read by descent with one token of sight. A name may begin an
+-- assignment to a variable or to a field: what follows the name tells. So does what follows a
+-- condition.
 use Rattle.std.specs.Prelude.{ℕ, zero, suc, Bool, List, [], ◌++◌, Option, Some, None}
 use Rattle.plex_lexer.specs.declared.token.Token.{Token}
 use Rattle.token_grammar.specs.declared.named.Named.{Named}
 use Rattle.token_grammar.specs.declared.named.Numbered.{Numbered}
 use Rattle.token_grammar.specs.Language.{NAME}
-use Rattle.token_grammar.specs.Reading.{Reader, word_of, many, both, branch, halt, lined, after, ended, closed, pair, optional, flag_read, name_read, number_read}
+use Rattle.token_grammar.specs.Reading.{Reader, word_of, many, both, branch, halt, lined, after}
+use Rattle.token_grammar.specs.Reading.{ended, closed, pair, optional, flag_read, name_read}
+use Rattle.token_grammar.specs.Reading.{number_read}
 use Rattle.plex_ast.specs.declared.expr.Expr.{Expr}
 use Rattle.plex_ast.specs.declared.expr.Rel.{Rel}
 use Rattle.plex_ast.specs.declared.expr.Cond.{Cond}
@@ -13,10 +16,16 @@ use Rattle.plex_ast.specs.declared.expr.Exprs.{Exprs}
 use Rattle.plex_ast.specs.declared.stmt.Names.{Names}
 use Rattle.plex_ast.specs.declared.stmt.Reference.{Reference}
 use Rattle.plex_ast.specs.declared.stmt.Stmt.{Stmt}
-use Rattle.plex_ast.specs.declared.stmt.StmtKind.{StmtKind, Assign, SetField, Goto, IfGoto, If, Case, On, ForFirst, Send, Retrieve, Return, Transfer, Seize, Free, Exit}
+use Rattle.plex_ast.specs.declared.stmt.StmtKind.{StmtKind, Assign, SetField, Goto, IfGoto, If}
+use Rattle.plex_ast.specs.declared.stmt.StmtKind.{Case, On, ForFirst, Send, Retrieve, Return}
+use Rattle.plex_ast.specs.declared.stmt.StmtKind.{Transfer, Seize, Free, Exit}
 use Rattle.plex_ast.specs.declared.stmt.When.{When, When-F, roll-When}
-use Rattle.plex_ast.specs.Words.{FORLOPP, SEND, GOTO, IF, THEN, ELSE, FI, CASE, IS, WHEN, DO, OTHERWISE, ESAC, ON, FROM, UPTO, NO, FOR, FIRST, IN, WHERE, WITH, REFERENCE, NEW, RETRIEVE, RETURN, TRANSFER, EXIT, SEIZE, FREE, SEMI, EQUAL}
-use Rattle.plex_expr_parser.specs.Readers.{pointer_read, expr_read, rel_read, cond_read, names_read, exprs_read, reference_read}
+use Rattle.plex_ast.specs.Words.{FORLOPP, SEND, GOTO, IF, THEN, ELSE, FI, CASE, IS, WHEN, DO}
+use Rattle.plex_ast.specs.Words.{OTHERWISE, ESAC, ON, FROM, UPTO, NO, FOR, FIRST, IN, WHERE, WITH}
+use Rattle.plex_ast.specs.Words.{REFERENCE, NEW, RETRIEVE, RETURN, TRANSFER, EXIT, SEIZE, FREE}
+use Rattle.plex_ast.specs.Words.{SEMI, EQUAL}
+use Rattle.plex_expr_parser.specs.Readers.{pointer_read, expr_read, rel_read, cond_read, names_read}
+use Rattle.plex_expr_parser.specs.Readers.{exprs_read, reference_read}
 
 -- assignments: what follows the name, and the whole
 
@@ -49,7 +58,8 @@ abbrev pub sought_read : ℕ → Reader (Named × (Rel × (Expr × Named)))
 sought_read b = after WHERE (pair name_read (pair rel_read (pair (expr_read b) to_label_read)))
 
 unfoldable pub first_read : ℕ → Reader StmtKind
-first_read b = lined first_made (after FOR (after FIRST (pair name_read (after IN (pair name_read (sought_read b))))))
+first_read b = lined first_made (after FOR (after FIRST
+    (pair name_read (after IN (pair name_read (sought_read b))))))
 
 unfoldable pub receiver_read : Reader (Option Reference)
 receiver_read = optional REFERENCE reference_read
@@ -76,19 +86,23 @@ unfoldable pub send_read : ℕ → Reader StmtKind
 send_read b = lined send_made (after SEND (pair name_read (sent_read b)))
 
 unfoldable pub retrieve_read : Reader StmtKind
-retrieve_read = lined (λ _ (p : Named × Option Names). Retrieve p.0 p.1) (after RETRIEVE (pair name_read (ended taken_read SEMI)))
+retrieve_read = lined (λ _ (p : Named × Option Names). Retrieve p.0 p.1)
+    (after RETRIEVE (pair name_read (ended taken_read SEMI)))
 
 unfoldable pub return_read : ℕ → Reader StmtKind
-return_read b = lined (λ _ (p : Named × Option Exprs). Return p.0 p.1) (after RETURN (pair name_read (ended (values_read b) SEMI)))
+return_read b = lined (λ _ (p : Named × Option Exprs). Return p.0 p.1)
+    (after RETURN (pair name_read (ended (values_read b) SEMI)))
 
 unfoldable pub transfer_read : Reader StmtKind
-transfer_read = lined (λ _ (p : Named × Option Reference). Transfer p.0 p.1) (after TRANSFER (pair name_read (ended receiver_read SEMI)))
+transfer_read = lined (λ _ (p : Named × Option Reference). Transfer p.0 p.1)
+    (after TRANSFER (pair name_read (ended receiver_read SEMI)))
 
 abbrev pub seized_read : Reader (Named × Named)
 seized_read = after IN (pair name_read (after ELSE to_label_read))
 
 unfoldable pub seize_read : Reader StmtKind
-seize_read = lined (λ _ (p : Named × (Named × Named)). Seize p.0 p.1.0 p.1.1) (after SEIZE (pair name_read seized_read))
+seize_read = lined (λ _ (p : Named × (Named × Named)). Seize p.0 p.1.0 p.1.1)
+    (after SEIZE (pair name_read seized_read))
 
 abbrev pub freed_read : Reader Named
 freed_read = after IN (ended name_read SEMI)
@@ -100,7 +114,8 @@ unfoldable pub exit_read : Reader StmtKind
 exit_read = lined (λ _ (t : Token). Exit) (after EXIT (word_of SEMI))
 
 unfoldable pub signal_read : ℕ → Reader StmtKind
-signal_read b = branch SEND (send_read b) (branch RETRIEVE retrieve_read (branch RETURN (return_read b) transfer_read))
+signal_read b = branch SEND (send_read b) (branch RETRIEVE retrieve_read
+    (branch RETURN (return_read b) transfer_read))
 
 abbrev pub SIGNALLING : List ℕ
 SIGNALLING = SEND ++ (RETRIEVE ++ (RETURN ++ TRANSFER))
@@ -162,7 +177,8 @@ if_at b n body = after IF (both if_made (cond_read b) (if_tail_at n body))
 -- CASE and ON
 
 abbrev pub when_made : ℕ → Numbered × List Stmt → When
-when_made line p = let w : When-F StmtKind Stmt When = record { line = line; number = p.0; body = p.1 } in roll-When w
+when_made line p = let w : When-F StmtKind Stmt When = record
+    { line = line; number = p.0; body = p.1 } in roll-When w
 
 unfoldable pub when_by : Reader (List Stmt) → Reader When
 when_by body = lined when_made (after WHEN (pair number_read (after DO body)))
@@ -228,7 +244,8 @@ HELD = IF ++ (CASE ++ ON)
 abbrev pub STMT : List ℕ
 STMT = NAME ++ (PLAIN ++ HELD)
 
--- what a statement holds, where statements that hold statements may nest n deep; at 0 it is never read
+-- what a statement holds, where statements that hold statements may nest n deep; at 0 it is never
+-- read
 unfoldable pub body_read : ℕ → ℕ → Reader (List Stmt)
 body_read b zero = halt []
 body_read b (suc n) = many STMT (stmt_at b n (body_read b n))

@@ -63,7 +63,8 @@ fn one_block(
     ))
 }
 
-/// What stands in a block behind its name: declarations, surveys, and the items with the line of END.
+/// What stands in a block behind its name: declarations, surveys, and the items with the line of
+/// END.
 type Parts = (Seq<Decl>, (Seq<Survey>, (Seq<Item>, u32)));
 
 fn parts(

@@ -3,7 +3,8 @@ ghost use Rattle.std.specs.Prelude.{◌≡◌, ◌++◌};
 ghost use Rattle.plex_lexer.specs.Cursors.{ahead};
 ghost use Rattle.token_grammar.specs.Gives.{Reads};
 ghost use Rattle.token_grammar.specs.Reading.{at, many};
-ghost use Rattle.plex_parser.specs.Blocks.{enter_read, item_kind_read, item_read, name_item_read, name_tail_read, named_item, stmt_item_read, ITEM};
+ghost use Rattle.plex_parser.specs.Blocks.{enter_read, item_kind_read, item_read, name_item_read};
+ghost use Rattle.plex_parser.specs.Blocks.{name_tail_read, named_item, stmt_item_read, ITEM};
 
 use crate::assignment::{assign, assigned};
 use crate::nested::{other, starts_stmt};

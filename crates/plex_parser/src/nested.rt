@@ -1,9 +1,15 @@
-// Statements, whose brackets nest at most `room` deep and which hold statements at most `deep` deep.
+// Statements, whose brackets nest at most `room` deep and which hold statements at most `deep`
+// deep.
 ghost use Rattle.std.specs.Prelude.{◌≡◌, ◌++◌, ◌∷◌, []};
 ghost use Rattle.plex_lexer.specs.Cursors.{ahead};
 ghost use Rattle.token_grammar.specs.Gives.{Reads};
 ghost use Rattle.token_grammar.specs.Reading.{at, many};
-ghost use Rattle.plex_parser.specs.Statements.{body_read, arms_read, branches_read, case_by, do_read, else_by, else_to_fi_read, gone_read, held_at, if_at, if_tail_at, if_with, kind_at, nest_by, on_by, other_at, otherwise_read, span_read, stmt_read, stmts_read, then_by, upto_read, when_by, HELD as HELD_WORDS, PLAIN as PLAIN_WORDS, STMT};
+ghost use Rattle.plex_parser.specs.Statements.{body_read, arms_read, branches_read, case_by};
+ghost use Rattle.plex_parser.specs.Statements.{do_read, else_by, else_to_fi_read, gone_read};
+ghost use Rattle.plex_parser.specs.Statements.{held_at, if_at, if_tail_at, if_with, kind_at};
+ghost use Rattle.plex_parser.specs.Statements.{nest_by, on_by, other_at, otherwise_read, span_read};
+ghost use Rattle.plex_parser.specs.Statements.{stmt_read, stmts_read, then_by, upto_read, when_by};
+ghost use Rattle.plex_parser.specs.Statements.{HELD as HELD_WORDS, PLAIN as PLAIN_WORDS, STMT};
 ghost use Rattle.plex_ast.specs.Words as classes;
 
 use crate::assignment::{assign, assigned};

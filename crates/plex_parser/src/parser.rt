@@ -15,8 +15,8 @@ use std::alloc::Global;
 use thiserror::Error;
 use token_grammar::{Fault, line_of};
 
-/// Why a list of tokens is no sentence: the place, from 0, of the first token after the longest front that begins some
-/// sentence; or that memory was refused.
+/// Why a list of tokens is no sentence: the place, from 0, of the first token after the longest
+/// front that begins some sentence; or that memory was refused.
 #[derive(Debug, Drop, Error)]
 pub enum ParseFault {
     /// The token may not stand there.
@@ -32,7 +32,8 @@ pub enum ParseFault {
     Memory,
 }
 
-/// The tree that the tokens spell, or the first token that does not fit. Takes time in proportion to their number.
+/// The tree that the tokens spell, or the first token that does not fit. Takes time in proportion
+/// to their number.
 pub fn parse(alloc: Global, tokens: &Tokens<'_>) -> Result<Tree, ParseFault>
     requires { length tokens.now ≤ MOST_TOKENS }
     // What comes is spelled so, and a fault is that of the tokens.

@@ -1,7 +1,9 @@
 // Statements that begin with a word and hold no statement.
 ghost use Rattle.std.specs.Prelude.{◌≡◌};
 ghost use Rattle.token_grammar.specs.Gives.{Reads};
-ghost use Rattle.plex_parser.specs.Statements.{exit_read, first_read, free_read, freed_read, goto_read, plain_read, seize_read, seized_read, sought_read, to_label_read};
+ghost use Rattle.plex_parser.specs.Statements.{exit_read, first_read, free_read, freed_read};
+ghost use Rattle.plex_parser.specs.Statements.{goto_read, plain_read, seize_read, seized_read};
+ghost use Rattle.plex_parser.specs.Statements.{sought_read, to_label_read};
 ghost use Rattle.token_grammar.specs.Reading.{name_read};
 ghost use Rattle.plex_expr_parser.specs.Readers.{expr_read};
 
@@ -57,7 +59,8 @@ fn goto(alloc: Global, tokens: Cursor<'_>) -> Result<(StmtKind, Cursor<'_>), Fau
     Ok((StmtKind::Goto { label }, left))
 }
 
-/// What the record is that a FOR FIRST seeks: the field, the relation, the value, and the label where there is none.
+/// What the record is that a FOR FIRST seeks: the field, the relation, the value, and the label
+/// where there is none.
 type Sought = (Boxed<Named>, (Rel, (Boxed<Expr>, Boxed<Named>)));
 
 /// `FOR FIRST name IN name WHERE name rel expr GOTO name ;`

@@ -1,7 +1,9 @@
 // Statements that send, take and answer signals.
 ghost use Rattle.std.specs.Prelude.{◌≡◌};
 ghost use Rattle.token_grammar.specs.Gives.{Reads};
-ghost use Rattle.plex_parser.specs.Statements.{fresh_read, load_read, receiver_read, retrieve_read, return_read, send_read, sent_read, signal_read, taken_read, transfer_read, values_read};
+ghost use Rattle.plex_parser.specs.Statements.{fresh_read, load_read, receiver_read, retrieve_read};
+ghost use Rattle.plex_parser.specs.Statements.{return_read, send_read, sent_read, signal_read};
+ghost use Rattle.plex_parser.specs.Statements.{taken_read, transfer_read, values_read};
 
 use crate::plain::boxed_name;
 use plex_ast::{Boxed, Exprs, Names, Reference, StmtKind, words};

@@ -1,5 +1,7 @@
 -- What is written for a thing of the grammar spells it, put together as the grammar is.
-use Rattle.std.proofs.Common.{◌≡◌, ℕ, ◌+◌, ◌*◌, ◌≤◌, Bool, true, false, cond, List, [], ◌∷◌, ◌++◌, Option, Some, None, IfSome, refl, sym, ◌∙◌, ap, arith, append_assoc, codes, decimal, subst}
+use Rattle.std.proofs.Common.{◌≡◌, ℕ, ◌+◌, ◌*◌, ◌≤◌, Bool, true, false, cond, List, [], ◌∷◌, ◌++◌}
+use Rattle.std.proofs.Common.{Option, Some, None, IfSome, refl, sym, ◌∙◌, ap, arith, append_assoc}
+use Rattle.std.proofs.Common.{codes, decimal, subst}
 use Rattle.std.proofs.lemmas.Bool.{false≢true}
 use Rattle.std.proofs.lemmas.Bool.Decides.{nat_tests}
 use Rattle.std.proofs.lemmas.List.{append-nil}
@@ -12,13 +14,16 @@ use Rattle.plex_num.specs.declared.level.Level.TheVariants.{A, B, C, D}
 use Rattle.token_grammar.specs.declared.named.Named.{Named}
 use Rattle.token_grammar.specs.declared.named.Numbered.{Numbered}
 use Rattle.token_grammar.specs.declared.named.Leveled.{Leveled}
-use Rattle.token_grammar.specs.Language.{Lang, word, ◌·◌, nothing, never, on, each, maybe, flag, named, numbered, leveled, level_name, mem, kind_class, name_class, keyword, mark}
+use Rattle.token_grammar.specs.Language.{Lang, word, ◌·◌, nothing, never, on, each, maybe, flag}
+use Rattle.token_grammar.specs.Language.{named, numbered, leveled, level_name, mem, kind_class}
+use Rattle.token_grammar.specs.Language.{name_class, keyword, mark}
 use Rattle.plex_lexer.specs.Words.{keyword_of}
 use Rattle.kept_trees.specs.Keeps.{IsName, IsNamed, KeepsNumber, Every}
 use Rattle.kept_trees.specs.Words.{AreWords, IsTextWord}
 use Rattle.plex_print.specs.Writing.{Writer, say, semi, leave, ◌▷◌, each_of, maybe_of, flag_of}
 use Rattle.plex_print.specs.PrintedExpressions.{name_text, number_text, level_text}
-use Rattle.plex_print.proofs.Lexing.{kinds_of, kinds-append, Reads, Reads-none, Reads-append, Reads-word, Reads-name, Reads-number, Reads-semi}
+use Rattle.plex_print.proofs.Lexing.{kinds_of, kinds-append, Reads, Reads-none, Reads-append}
+use Rattle.plex_print.proofs.Lexing.{Reads-word, Reads-name, Reads-number, Reads-semi}
 use Rattle.kept_trees.proofs.Kept.{words-first, words-second, word_at}
 
 -- what was added to a text is read as tokens of these kinds
@@ -33,8 +38,8 @@ pub record Some_words (M : Lang) : Type 0 where
   pub are : AreWords words
   pub spell : M words
 
--- whatever words spell the thing, words of their kinds are written, and each list of words of those kinds spells it, lines
--- aside; some words spell it where it keeps K
+-- whatever words spell the thing, words of their kinds are written, and each list of words of those
+-- kinds spells it, lines aside; some words spell it where it keeps K
 pub record Fits (K : Type 0) (L M : Lang) (f : Writer) : Type 0 where
   pub wrote : (u : List Token) → AreWords u → L u → (old : List ℕ) → Wrote (kinds_of u) old (f old)
   pub same : (u v : List Token) → kinds_of u ≡ kinds_of v → L u → M v
@@ -161,11 +166,15 @@ Fits-on s line F = record {
 
 -- several, one or none
 
-pub Fits-each : {X : Type 0} {K : X → Type 0} {L M : X → Lang} {f : X → Writer} → ((x : X) → Fits (K x) (L x) (M x) (f x)) → (xs : List X) → Fits (Every K xs) (each L xs) (each M xs) (each_of f xs)
+pub Fits-each : {X : Type 0} {K : X → Type 0} {L M : X → Lang} {f : X → Writer}
+    → ((x : X) → Fits (K x) (L x) (M x) (f x)) → (xs : List X)
+    → Fits (Every K xs) (each L xs) (each M xs) (each_of f xs)
 Fits-each F [] = Fits-nothing
 Fits-each F (x ∷ xs) = Fits-then (F x) (Fits-each F xs)
 
-pub Fits-maybe : {X : Type 0} {K : X → Type 0} {L M : X → Lang} {f : X → Writer} → ((x : X) → Fits (K x) (L x) (M x) (f x)) → (o : Option X) → Fits (IfSome o K) (maybe L o) (maybe M o) (maybe_of f o)
+pub Fits-maybe : {X : Type 0} {K : X → Type 0} {L M : X → Lang} {f : X → Writer}
+    → ((x : X) → Fits (K x) (L x) (M x) (f x)) → (o : Option X)
+    → Fits (IfSome o K) (maybe L o) (maybe M o) (maybe_of f o)
 Fits-maybe F None = Fits-nothing
 Fits-maybe F (Some x) = F x
 
@@ -175,7 +184,8 @@ Fits-flag F false = Fits-nothing
 
 -- one word
 
-wrote_one : (k : TokenKind) (bytes : List ℕ) (f : Writer) (u : List Token) (t : Token) → u ≡ t ∷ [] → t.kind ≡ k → Reads (k ∷ []) bytes → ((old : List ℕ) → f old ≡ old ++ bytes) → (old : List ℕ) → Wrote (kinds_of u) old (f old)
+wrote_one : (k : TokenKind) (bytes : List ℕ) (f : Writer) (u : List Token) (t : Token) → u ≡ t ∷ [] → t.kind ≡ k
+    → Reads (k ∷ []) bytes → ((old : List ℕ) → f old ≡ old ++ bytes) → (old : List ℕ) → Wrote (kinds_of u) old (f old)
 wrote_one k bytes f u t e h r adds old =
     let same : k ∷ [] ≡ kinds_of u = ap (λ z. z ∷ []) (sym h) ∙ ap kinds_of (sym e) in
     record { bytes = bytes; adds = adds old; reads = subst (λ ks. Reads ks bytes) same r }
@@ -193,7 +203,9 @@ word_same cs u v e h =
     let o = one_of h.0.kind v (ap kinds_of (sym h.1) ∙ e) in
     (o.token, o.is, ap (λ k. mem (kind_class k) cs) o.kind ∙ h.2)
 
-Fits-word : (cs : List ℕ) (k : TokenKind) (bytes : List ℕ) (f : Writer) → IsTextWord k → mem (kind_class k) cs ≡ true → ((j : TokenKind) → mem (kind_class j) cs ≡ true → j ≡ k) → Reads (k ∷ []) bytes → ((old : List ℕ) → f old ≡ old ++ bytes) → Fits (Unit {0}) (word cs) (word cs) f
+Fits-word : (cs : List ℕ) (k : TokenKind) (bytes : List ℕ) (f : Writer) → IsTextWord k → mem (kind_class k) cs ≡ true
+    → ((j : TokenKind) → mem (kind_class j) cs ≡ true → j ≡ k) → Reads (k ∷ []) bytes
+    → ((old : List ℕ) → f old ≡ old ++ bytes) → Fits (Unit {0}) (word cs) (word cs) f
 Fits-word cs k bytes f good its only r adds = record {
   wrote = λ u w h old. wrote_one k bytes f u h.0 h.1 (only h.0.kind h.2) r adds old;
   same = word_same cs;
@@ -228,7 +240,8 @@ only_mark k (kinds.Number n) h = absurd (omega (arith, is_one 5 (2 * k + 7) h))
 only_mark k (kinds.Keyword n) h = absurd (omega (arith, is_one (2 * n + 6) (2 * k + 7) h))
 only_mark k (kinds.Mark n) h = let e : n ≡ k = omega (arith, is_one (2 * n + 7) (2 * k + 7) h) in ap kinds.Mark e
 
-pub Fits-keyword : (k : ℕ) (bytes : List ℕ) → Reads (kinds.Keyword k ∷ []) (bytes ++ (32 ∷ [])) → Fits (Unit {0}) (word (keyword k)) (word (keyword k)) (say bytes)
+pub Fits-keyword : (k : ℕ) (bytes : List ℕ) → Reads (kinds.Keyword k ∷ []) (bytes ++ (32 ∷ []))
+    → Fits (Unit {0}) (word (keyword k)) (word (keyword k)) (say bytes)
 Fits-keyword k bytes r = Fits-word (keyword k) (kinds.Keyword k) (bytes ++ (32 ∷ [])) (say bytes) tt (one_is (2 * k + 6)) (only_keyword k) r (said bytes)
 
 pub Fits-mark : (k : ℕ) (bytes : List ℕ) → Reads (kinds.Mark k ∷ []) (bytes ++ (32 ∷ [])) → Fits (Unit {0}) (word (mark k)) (word (mark k)) (say bytes)
@@ -242,14 +255,16 @@ Fits-semi = Fits-word (mark 0) (kinds.Mark 0) (59 ∷ 10 ∷ []) semi tt (one_is
 
 pub Fits-name : (s : Bool) (x : Named) → Fits (IsNamed x) (named s x) (named false x) (name_text x)
 Fits-name s x = record {
-  wrote = λ u w h old. wrote_one (kinds.Name x.name) (x.name ++ (32 ∷ [])) (say x.name) u h.0 h.1 h.2 (Reads-name x.name (word_at u h.0 (kinds.Name x.name) h.1 h.2 w)) (said x.name) old;
+  wrote = λ u w h old. wrote_one (kinds.Name x.name) (x.name ++ (32 ∷ [])) (say x.name) u h.0 h.1 h.2
+      (Reads-name x.name (word_at u h.0 (kinds.Name x.name) h.1 h.2 w)) (said x.name) old;
   same = λ u v e h. let o = one_of h.0.kind v (ap kinds_of (sym h.1) ∙ e) in (o.token, o.is, o.kind ∙ h.2, λ z. absurd (false≢true z));
   has = λ k. record { words = an (kinds.Name x.name) ∷ []; are = (k, tt); spell = (an (kinds.Name x.name), refl, refl, λ z. absurd (false≢true z)) };
 }
 
 pub Fits-number : (s : Bool) (x : Numbered) → Fits (KeepsNumber x) (numbered s x) (numbered false x) (number_text x)
 Fits-number s x = record {
-  wrote = λ u w h old. wrote_one (kinds.Number x.value) (decimal x.value ++ (32 ∷ [])) (say (decimal x.value)) u h.0 h.1 h.2 (Reads-number x.value (word_at u h.0 (kinds.Number x.value) h.1 h.2 w)) (said (decimal x.value)) old;
+  wrote = λ u w h old. wrote_one (kinds.Number x.value) (decimal x.value ++ (32 ∷ [])) (say (decimal x.value)) u h.0 h.1
+      h.2 (Reads-number x.value (word_at u h.0 (kinds.Number x.value) h.1 h.2 w)) (said (decimal x.value)) old;
   same = λ u v e h. let o = one_of h.0.kind v (ap kinds_of (sym h.1) ∙ e) in (o.token, o.is, o.kind ∙ h.2, λ z. absurd (false≢true z));
   has = λ k. record { words = an (kinds.Number x.value) ∷ []; are = (k, tt); spell = (an (kinds.Number x.value), refl, refl, λ z. absurd (false≢true z)) };
 }
@@ -270,7 +285,12 @@ level_is D = record { first = refl; others = refl; short = omega arith; free = r
 
 pub Fits-level : (s : Bool) (x : Leveled) → Fits (Unit {0}) (leveled s x) (leveled false x) (level_text x)
 Fits-level s x = record {
-  wrote = λ u w h old. wrote_one (kinds.Name (level_name x.level)) (level_name x.level ++ (32 ∷ [])) (say (level_name x.level)) u h.0 h.1 h.2 (level_reads x.level) (said (level_name x.level)) old;
+  wrote = λ u w h old. wrote_one (kinds.Name (level_name x.level)) (level_name x.level ++ (32 ∷ []))
+      (say (level_name x.level)) u h.0 h.1 h.2 (level_reads x.level) (said (level_name x.level)) old;
   same = λ u v e h. let o = one_of h.0.kind v (ap kinds_of (sym h.1) ∙ e) in (o.token, o.is, o.kind ∙ h.2, λ z. absurd (false≢true z));
-  has = λ k. record { words = an (kinds.Name (level_name x.level)) ∷ []; are = (level_is x.level, tt); spell = (an (kinds.Name (level_name x.level)), refl, refl, λ z. absurd (false≢true z)) };
+  has = λ k. record {
+    words = an (kinds.Name (level_name x.level)) ∷ [];
+    are = (level_is x.level, tt);
+    spell = (an (kinds.Name (level_name x.level)), refl, refl, λ z. absurd (false≢true z));
+  };
 }

@@ -1,5 +1,7 @@
 -- What bytes are read as, wherever they stand in a text.
-use Rattle.std.proofs.Common.{◌≡◌, ℕ, ◌+◌, ◌-◌, ◌<◌, ◌^◌, Bool, true, false, cond, nat_eq, ◌&&◌, List, [], ◌∷◌, ◌++◌, length, drop, take, Result, Ok, Err, Some, refl, sym, ◌∙◌, ap, arith, append_assoc, decimal}
+use Rattle.std.proofs.Common.{◌≡◌, ℕ, ◌+◌, ◌-◌, ◌<◌, ◌^◌, Bool, true, false, cond, nat_eq, ◌&&◌}
+use Rattle.std.proofs.Common.{List, [], ◌∷◌, ◌++◌, length, drop, take, Result, Ok, Err, Some, refl}
+use Rattle.std.proofs.Common.{sym, ◌∙◌, ap, arith, append_assoc, decimal}
 use Rattle.std.proofs.lemmas.Bool.Decides.{nat_tests}
 use Rattle.std.proofs.lemmas.Bool.{le-ltb}
 use Rattle.std.specs.Char.{is_ascii_digit, is_ascii_uppercase}
@@ -69,7 +71,9 @@ Reads-append ks js a b ra rb n line rest =
 
 -- one token
 pub Reads-one : (k : TokenKind) (bytes : List ℕ) (step : ℕ → ℕ)
-    → ((n line : ℕ) (rest : List ℕ) → lexed Between n line (bytes ++ rest) ≡ put (record { kind = k; line = line; offset = n - length (bytes ++ rest) }) (lexed Between n (step line) rest))
+    → ((n line : ℕ) (rest : List ℕ) → lexed Between n line (bytes ++ rest)
+    ≡ put (record { kind = k; line = line; offset = n - length (bytes ++ rest) })
+    (lexed Between n (step line) rest))
     → Reads (k ∷ []) bytes
 Reads-one k bytes step e n line rest = record {
   next = step line;
@@ -115,7 +119,8 @@ after_blank : (n line : ℕ) (rest : List ℕ) → lexed Between n line (32 ∷ 
 after_blank n line rest = at_blank n line 32 rest refl refl
 
 -- a word and a blank
-pub Reads-word : (b : ℕ) (bs : List ℕ) (k : TokenKind) → is_ascii_uppercase b ≡ true → list_all in_word bs ≡ true → ((o l : ℕ) → word_kind (b ∷ bs) o l ≡ Ok k) → Reads (k ∷ []) ((b ∷ bs) ++ (32 ∷ []))
+pub Reads-word : (b : ℕ) (bs : List ℕ) (k : TokenKind) → is_ascii_uppercase b ≡ true → list_all in_word bs ≡ true
+    → ((o l : ℕ) → word_kind (b ∷ bs) o l ≡ Ok k) → Reads (k ∷ []) ((b ∷ bs) ++ (32 ∷ []))
 Reads-word b bs k up all kind = Reads-one k ((b ∷ bs) ++ (32 ∷ [])) (λ l. l) go
   where
     at_word : (o line : ℕ) (rest : List ℕ) → token_at o line b (bs ++ (32 ∷ rest)) ≡ Ok (record { kind = k; line = line; offset = o }, 32 ∷ rest)
@@ -126,7 +131,9 @@ Reads-word b bs k up all kind = Reads-one k ((b ∷ bs) ++ (32 ∷ [])) (λ l. l
         ∙ ap (λ z. kind_and_rest z o line (drop (length bs) (bs ++ (32 ∷ rest)))) (kind o line)
         ∙ ap (λ z. kind_and_rest (Ok k) o line z) (drop-all-of bs (32 ∷ rest))
 
-    go : (n line : ℕ) (rest : List ℕ) → lexed Between n line (((b ∷ bs) ++ (32 ∷ [])) ++ rest) ≡ put (record { kind = k; line = line; offset = n - length (((b ∷ bs) ++ (32 ∷ [])) ++ rest) }) (lexed Between n line rest)
+    go : (n line : ℕ) (rest : List ℕ) → lexed Between n line (((b ∷ bs) ++ (32 ∷ [])) ++ rest)
+        ≡ put (record { kind = k; line = line; offset = n - length (((b ∷ bs) ++ (32 ∷ [])) ++ rest) })
+        (lexed Between n line rest)
     go n line rest =
         let e : ((b ∷ bs) ++ (32 ∷ [])) ++ rest ≡ b ∷ (bs ++ (32 ∷ rest)) = append_assoc (b ∷ bs) (32 ∷ []) rest in
         let no = begins_word b up in
@@ -137,7 +144,8 @@ Reads-word b bs k up all kind = Reads-one k ((b ∷ bs) ++ (32 ∷ [])) (λ l. l
         ∙ ap (λ z. put (record { kind = k; line = line; offset = n - length z }) (lexed Between n line rest)) (sym e)
 
 -- digits and a blank
-Reads-digits : (b : ℕ) (bs : List ℕ) (k : TokenKind) → is_ascii_digit b ≡ true → list_all is_ascii_digit bs ≡ true → ((o l : ℕ) → number_kind (b ∷ bs) o l ≡ Ok k) → Reads (k ∷ []) ((b ∷ bs) ++ (32 ∷ []))
+Reads-digits : (b : ℕ) (bs : List ℕ) (k : TokenKind) → is_ascii_digit b ≡ true → list_all is_ascii_digit bs ≡ true
+    → ((o l : ℕ) → number_kind (b ∷ bs) o l ≡ Ok k) → Reads (k ∷ []) ((b ∷ bs) ++ (32 ∷ []))
 Reads-digits b bs k up all kind = Reads-one k ((b ∷ bs) ++ (32 ∷ [])) (λ l. l) go
   where
     at_digits : (o line : ℕ) (rest : List ℕ) → token_at o line b (bs ++ (32 ∷ rest)) ≡ Ok (record { kind = k; line = line; offset = o }, 32 ∷ rest)
@@ -148,7 +156,9 @@ Reads-digits b bs k up all kind = Reads-one k ((b ∷ bs) ++ (32 ∷ [])) (λ l.
         ∙ ap (λ z. kind_and_rest z o line (drop (length bs) (bs ++ (32 ∷ rest)))) (kind o line)
         ∙ ap (λ z. kind_and_rest (Ok k) o line z) (drop-all-of bs (32 ∷ rest))
 
-    go : (n line : ℕ) (rest : List ℕ) → lexed Between n line (((b ∷ bs) ++ (32 ∷ [])) ++ rest) ≡ put (record { kind = k; line = line; offset = n - length (((b ∷ bs) ++ (32 ∷ [])) ++ rest) }) (lexed Between n line rest)
+    go : (n line : ℕ) (rest : List ℕ) → lexed Between n line (((b ∷ bs) ++ (32 ∷ [])) ++ rest)
+        ≡ put (record { kind = k; line = line; offset = n - length (((b ∷ bs) ++ (32 ∷ [])) ++ rest) })
+        (lexed Between n line rest)
     go n line rest =
         let e : ((b ∷ bs) ++ (32 ∷ [])) ++ rest ≡ b ∷ (bs ++ (32 ∷ rest)) = append_assoc (b ∷ bs) (32 ∷ []) rest in
         let no = begins_number b up in
@@ -180,10 +190,13 @@ Reads-name (b ∷ bs) is = Reads-word b bs (kinds.Name (b ∷ bs)) is.first (bot
 -- a number
 digits_read : (n : ℕ) (ds : List ℕ) → 0 < length ds → list_all is_ascii_digit ds ≡ true → number_of ds ≡ Some n → Reads (kinds.Number n ∷ []) (ds ++ (32 ∷ []))
 digits_read n [] some all is = absurd (omega arith)
-digits_read n (b ∷ bs) some all is = Reads-digits b bs (kinds.Number n) (both-first (is_ascii_digit b) (list_all is_ascii_digit bs) all) (both-second (is_ascii_digit b) (list_all is_ascii_digit bs) all) (λ o l. ap (λ z. number_or_fault z o l) is)
+digits_read n (b ∷ bs) some all is = Reads-digits b bs (kinds.Number n)
+    (both-first (is_ascii_digit b) (list_all is_ascii_digit bs) all)
+    (both-second (is_ascii_digit b) (list_all is_ascii_digit bs) all) (λ o l. ap (λ z. number_or_fault z o l) is)
 
 pub Reads-number : (n : ℕ) → n < 2 ^ 32 → Reads (kinds.Number n ∷ []) (decimal n ++ (32 ∷ []))
-Reads-number n h = (let wide : n < 2 ^ 64 = omega arith in digits_read n (decimal n) (decimal_nonempty n wide) (decimal_all_digits n wide) (number_of-decimal n h))
+Reads-number n h = (let wide : n < 2 ^ 64 = omega arith in digits_read n (decimal n) (decimal_nonempty n wide)
+    (decimal_all_digits n wide) (number_of-decimal n h))
 
 -- a semicolon and an LF
 pub Reads-semi : Reads (kinds.Mark 0 ∷ []) (59 ∷ 10 ∷ [])

@@ -2,7 +2,8 @@
 use Rattle.std.proofs.Common.{◌≡◌, ℕ, zero, suc, ◌-◌, List, ◌++◌, refl, ap, append_assoc, arith}
 use Rattle.plex_ast.specs.declared.expr.Expr.{Expr}
 use Rattle.plex_print.specs.Printed.{stmt_text, kind_text, body_text}
-use Rattle.plex_print.specs.PrintedExpressions.{inside_text, factor_text, multiplied_text, term_text, added_text, expr_text}
+use Rattle.plex_print.specs.PrintedExpressions.{inside_text, factor_text, multiplied_text}
+use Rattle.plex_print.specs.PrintedExpressions.{term_text, added_text, expr_text}
 use Rattle.plex_print.specs.Writing.{each_of}
 use Rattle.plex_ast.specs.declared.stmt.Stmt.{Stmt}
 

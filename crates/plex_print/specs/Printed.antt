@@ -1,5 +1,5 @@
--- What is written for a tree, one line for each production or alternative of the grammar, in its order.
--- As in the grammar, the two limits are parameters: what nests deeper is left out.
+-- What is written for a tree, one line for each production or alternative of the grammar, in its
+-- order. As in the grammar, the two limits are parameters: what nests deeper is left out.
 use Rattle.std.specs.Prelude.{ℕ, zero, suc, Bool, List, Option, codes}
 use Rattle.token_grammar.specs.declared.named.Named.{Named}
 use Rattle.token_grammar.specs.declared.named.Numbered.{Numbered}
@@ -32,7 +32,8 @@ use Rattle.plex_ast.specs.declared.tree.ShapeKind.{ShapeKind}
 use Rattle.plex_ast.specs.declared.tree.ShapeKind.TheVariants as shapes
 use Rattle.plex_ast.specs.declared.tree.Tree.{Tree}
 use Rattle.plex_print.specs.Writing.{Writer, say, semi, leave, ◌▷◌, each_of, maybe_of, flag_of}
-use Rattle.plex_print.specs.PrintedExpressions.{name_text, number_text, level_text, expr_text, rel_text, cond_text}
+use Rattle.plex_print.specs.PrintedExpressions.{name_text, number_text, level_text, expr_text}
+use Rattle.plex_print.specs.PrintedExpressions.{rel_text, cond_text}
 
 -- lists of names and of values, and a receiver
 
@@ -50,7 +51,8 @@ exprs_text b x = say (codes "WITH") ▷ (expr_text b x.first ▷ each_of (comma_
 
 abbrev pub reference_at : ReferenceKind → Writer
 reference_at (references.Block m) = say (codes "REFERENCE") ▷ name_text m
-reference_at (references.Held v) = say (codes "REFERENCE") ▷ (say (codes "(") ▷ (name_text v ▷ say (codes ")")))
+reference_at (references.Held v) =
+    say (codes "REFERENCE") ▷ (say (codes "(") ▷ (name_text v ▷ say (codes ")")))
 
 unfoldable pub reference_text : Reference → Writer
 reference_text x = reference_at x.kind
@@ -64,7 +66,8 @@ unfoldable pub assign_text : ℕ → Named → Expr → Writer
 assign_text b n e = name_text n ▷ (say (codes "=") ▷ (expr_text b e ▷ semi))
 
 unfoldable pub set_field_text : ℕ → Named → Named → Expr → Writer
-set_field_text b n p e = name_text n ▷ (say (codes "(") ▷ (name_text p ▷ (say (codes ")") ▷ (say (codes "=") ▷ (expr_text b e ▷ semi)))))
+set_field_text b n p e = name_text n ▷ (say (codes "(")
+    ▷ (name_text p ▷ (say (codes ")") ▷ (say (codes "=") ▷ (expr_text b e ▷ semi)))))
 
 unfoldable pub if_goto_text : ℕ → Cond → Named → Writer
 if_goto_text b c l = say (codes "IF") ▷ (cond_text b c ▷ to_label_text l)
@@ -73,7 +76,9 @@ unfoldable pub else_text : (List Stmt → Writer) → List Stmt → Writer
 else_text body stmts = say (codes "ELSE") ▷ body stmts
 
 unfoldable pub if_text : ℕ → (List Stmt → Writer) → Cond → List Stmt → Option (List Stmt) → Writer
-if_text b body c first other = say (codes "IF") ▷ (cond_text b c ▷ (say (codes "THEN") ▷ (body first ▷ (maybe_of (else_text body) other ▷ (say (codes "FI") ▷ semi)))))
+if_text b body c first other = say (codes "IF")
+    ▷ (cond_text b c ▷ (say (codes "THEN") ▷ (body first
+    ▷ (maybe_of (else_text body) other ▷ (say (codes "FI") ▷ semi)))))
 
 abbrev pub when_at : (List Stmt → Writer) → open_stmt.When-F StmtKind Stmt When → Writer
 when_at body x = say (codes "WHEN") ▷ (number_text x.number ▷ (say (codes "DO") ▷ body x.body))
@@ -82,16 +87,26 @@ unfoldable pub when_text : (List Stmt → Writer) → When → Writer
 when_text body x = when_at body (out-When x)
 
 unfoldable pub case_text : ℕ → (List Stmt → Writer) → Expr → List When → List Stmt → Writer
-case_text b body e whens other = say (codes "CASE") ▷ (expr_text b e ▷ (say (codes "IS") ▷ (each_of (when_text body) whens ▷ (say (codes "OTHERWISE") ▷ (say (codes "DO") ▷ (body other ▷ (say (codes "ESAC") ▷ semi)))))))
+case_text b body e whens other = say (codes "CASE")
+    ▷ (expr_text b e ▷ (say (codes "IS") ▷ (each_of (when_text body) whens
+    ▷ (say (codes "OTHERWISE") ▷ (say (codes "DO") ▷ (body other ▷ (say (codes "ESAC") ▷ semi)))))))
 
 unfoldable pub on_text : ℕ → (List Stmt → Writer) → Named → Expr → Expr → List Stmt → Writer
-on_text b body n from upto stmts = say (codes "ON") ▷ (name_text n ▷ (say (codes "FROM") ▷ (expr_text b from ▷ (say (codes "UPTO") ▷ (expr_text b upto ▷ (say (codes "DO") ▷ (body stmts ▷ (say (codes "NO") ▷ semi))))))))
+on_text b body n from upto stmts = say (codes "ON")
+    ▷ (name_text n ▷ (say (codes "FROM") ▷ (expr_text b from
+    ▷ (say (codes "UPTO") ▷ (expr_text b upto ▷ (say (codes "DO")
+    ▷ (body stmts ▷ (say (codes "NO") ▷ semi))))))))
 
 unfoldable pub for_first_text : ℕ → Named → Named → Named → Rel → Expr → Named → Writer
-for_first_text b n file field r e l = say (codes "FOR") ▷ (say (codes "FIRST") ▷ (name_text n ▷ (say (codes "IN") ▷ (name_text file ▷ (say (codes "WHERE") ▷ (name_text field ▷ (rel_text r ▷ (expr_text b e ▷ to_label_text l))))))))
+for_first_text b n file field r e l = say (codes "FOR")
+    ▷ (say (codes "FIRST") ▷ (name_text n ▷ (say (codes "IN")
+    ▷ (name_text file ▷ (say (codes "WHERE") ▷ (name_text field
+    ▷ (rel_text r ▷ (expr_text b e ▷ to_label_text l))))))))
 
 unfoldable pub send_text : ℕ → Named → Option Reference → Option Exprs → Bool → Writer
-send_text b n r es fresh = say (codes "SEND") ▷ (name_text n ▷ (maybe_of reference_text r ▷ (maybe_of (exprs_text b) es ▷ (flag_of (say (codes "NEW") ▷ say (codes "FORLOPP")) fresh ▷ semi))))
+send_text b n r es fresh = say (codes "SEND") ▷ (name_text n
+    ▷ (maybe_of reference_text r ▷ (maybe_of (exprs_text b) es
+    ▷ (flag_of (say (codes "NEW") ▷ say (codes "FORLOPP")) fresh ▷ semi))))
 
 unfoldable pub retrieve_text : Named → Option Names → Writer
 retrieve_text n ns = say (codes "RETRIEVE") ▷ (name_text n ▷ (maybe_of names_text ns ▷ semi))
@@ -103,7 +118,8 @@ unfoldable pub transfer_text : Named → Option Reference → Writer
 transfer_text n r = say (codes "TRANSFER") ▷ (name_text n ▷ (maybe_of reference_text r ▷ semi))
 
 unfoldable pub seize_text : Named → Named → Named → Writer
-seize_text n file l = say (codes "SEIZE") ▷ (name_text n ▷ (say (codes "IN") ▷ (name_text file ▷ (say (codes "ELSE") ▷ to_label_text l))))
+seize_text n file l = say (codes "SEIZE") ▷ (name_text n
+    ▷ (say (codes "IN") ▷ (name_text file ▷ (say (codes "ELSE") ▷ to_label_text l))))
 
 unfoldable pub free_text : Named → Named → Writer
 free_text n file = say (codes "FREE") ▷ (name_text n ▷ (say (codes "IN") ▷ (name_text file ▷ semi)))
@@ -146,7 +162,8 @@ stmt_text b n x = kind_text b n x.kind
 
 abbrev pub item_at : ℕ → ℕ → ItemKind → Writer
 item_at b n (items.Label l) = name_text l ▷ say (codes ")")
-item_at b n (items.Enter m ns) = say (codes "ENTER") ▷ (name_text m ▷ (maybe_of names_text ns ▷ semi))
+item_at b n (items.Enter m ns) =
+    say (codes "ENTER") ▷ (name_text m ▷ (maybe_of names_text ns ▷ semi))
 item_at b n (items.Stmt s) = stmt_text b n s
 
 unfoldable pub item_text : ℕ → ℕ → Item → Writer
@@ -163,16 +180,21 @@ unfoldable pub init_text : Numbered → Writer
 init_text i = say (codes "INIT") ▷ number_text i
 
 unfoldable pub field_text : Field → Writer
-field_text x = say (codes "FIELD") ▷ (name_text x.name ▷ (say (codes "WIDTH") ▷ (number_text x.width ▷ (maybe_of init_text x.init ▷ semi))))
+field_text x = say (codes "FIELD") ▷ (name_text x.name
+    ▷ (say (codes "WIDTH") ▷ (number_text x.width ▷ (maybe_of init_text x.init ▷ semi))))
 
 unfoldable pub variable_text : Named → Numbered → Option Numbered → Bool → Writer
-variable_text n w i clear = say (codes "VARIABLE") ▷ (name_text n ▷ (say (codes "WIDTH") ▷ (number_text w ▷ (maybe_of init_text i ▷ (flag_of (say (codes "CLEAR")) clear ▷ semi)))))
+variable_text n w i clear = say (codes "VARIABLE")
+    ▷ (name_text n ▷ (say (codes "WIDTH") ▷ (number_text w
+    ▷ (maybe_of init_text i ▷ (flag_of (say (codes "CLEAR")) clear ▷ semi)))))
 
 unfoldable pub temporary_text : Named → Writer
 temporary_text n = say (codes "TEMPORARY") ▷ (name_text n ▷ semi)
 
 unfoldable pub file_text : Bool → Named → Numbered → List Field → Writer
-file_text forlopp n size fields = flag_of (say (codes "FORLOPP")) forlopp ▷ (say (codes "FILE") ▷ (name_text n ▷ (say (codes "SIZE") ▷ (number_text size ▷ (semi ▷ each_of field_text fields)))))
+file_text forlopp n size fields = flag_of (say (codes "FORLOPP")) forlopp
+    ▷ (say (codes "FILE") ▷ (name_text n ▷ (say (codes "SIZE")
+    ▷ (number_text size ▷ (semi ▷ each_of field_text fields)))))
 
 abbrev pub decl_at : DeclKind → Writer
 decl_at (decls.Variable n w i clear) = variable_text n w i clear
@@ -193,7 +215,9 @@ program_text b n xs = say (codes "PROGRAM") ▷ (semi ▷ each_of (item_text b n
 
 unfoldable pub block_text : ℕ → ℕ → Block → Writer
 block_text b n x =
-    say (codes "BLOCK") ▷ (name_text x.name ▷ (semi ▷ (declare_text x.decls ▷ (surveyed_text x.surveys ▷ (program_text b n x.items ▷ (say (codes "END") ▷ (say (codes "BLOCK") ▷ semi)))))))
+    say (codes "BLOCK") ▷ (name_text x.name ▷ (semi
+    ▷ (declare_text x.decls ▷ (surveyed_text x.surveys
+    ▷ (program_text b n x.items ▷ (say (codes "END") ▷ (say (codes "BLOCK") ▷ semi)))))))
 
 -- signals and the whole
 
@@ -201,9 +225,11 @@ unfoldable pub data_text : Numbered → Writer
 data_text d = say (codes "DATA") ▷ number_text d
 
 abbrev pub shape_at : ShapeKind → Writer
-shape_at (shapes.Buffered l d) = say (codes "SINGLE") ▷ (say (codes "BUFFERED") ▷ (level_text l ▷ data_text d))
+shape_at (shapes.Buffered l d) =
+    say (codes "SINGLE") ▷ (say (codes "BUFFERED") ▷ (level_text l ▷ data_text d))
 shape_at (shapes.Direct d) = say (codes "SINGLE") ▷ (say (codes "DIRECT") ▷ data_text d)
-shape_at (shapes.Combined d a e) = say (codes "COMBINED") ▷ (data_text d ▷ (say (codes "ANSWER") ▷ (name_text a ▷ data_text e)))
+shape_at (shapes.Combined d a e) =
+    say (codes "COMBINED") ▷ (data_text d ▷ (say (codes "ANSWER") ▷ (name_text a ▷ data_text e)))
 shape_at (shapes.Outside d) = say (codes "OUTSIDE") ▷ data_text d
 
 unfoldable pub shape_text : Shape → Writer

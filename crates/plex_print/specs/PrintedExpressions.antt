@@ -1,5 +1,6 @@
--- What is written for names, numbers, expressions and conditions, one line for each production or alternative of the
--- grammar, in its order. As in the grammar, the limit of brackets is a parameter: what nests deeper is left out.
+-- What is written for names, numbers, expressions and conditions, one line for each production or
+-- alternative of the grammar, in its order. As in the grammar, the limit of brackets is a
+-- parameter: what nests deeper is left out.
 use Rattle.std.specs.Prelude.{ℕ, zero, suc, codes}
 use Rattle.std.specs.Fmt.{decimal}
 use Rattle.token_grammar.specs.declared.named.Named.{Named}
@@ -36,17 +37,20 @@ level_text l = say (level_name l.level)
 
 -- expressions: `inner` writes what a bracket holds, `F` a factor, `T` a term
 
-abbrev pub factor_at : (Expr → Writer) → open_expr.FactorKind-F Added FactorKind Multiplied Expr Factor Term → Writer
+abbrev pub factor_at : (Expr → Writer) → open_expr.FactorKind-F Added FactorKind Multiplied Expr
+    Factor Term → Writer
 factor_at inner (open_expr.Number n) = number_text n
 factor_at inner (open_expr.Name n) = name_text n
-factor_at inner (open_expr.Field n p) = name_text n ▷ (say (codes "(") ▷ (name_text p ▷ say (codes ")")))
+factor_at inner (open_expr.Field n p) =
+    name_text n ▷ (say (codes "(") ▷ (name_text p ▷ say (codes ")")))
 factor_at inner (open_expr.Bracket e) = say (codes "(") ▷ (inner e ▷ say (codes ")"))
 factor_at inner (open_expr.Reference m) = say (codes "REFERENCE") ▷ name_text m
 
 abbrev pub factor_with : (Expr → Writer) → Factor → Writer
 factor_with inner f = factor_at inner (out-FactorKind f.kind)
 
-abbrev pub multiplied_at : (Factor → Writer) → open_expr.Multiplied-F Added FactorKind Multiplied Expr Factor Term → Writer
+abbrev pub multiplied_at : (Factor → Writer) → open_expr.Multiplied-F Added FactorKind Multiplied
+    Expr Factor Term → Writer
 multiplied_at F (open_expr.Times f) = say (codes "*") ▷ F f
 multiplied_at F (open_expr.Over f) = say (codes "/") ▷ F f
 multiplied_at F (open_expr.Mod f) = say (codes "MOD") ▷ F f
@@ -57,7 +61,8 @@ multiplied_with F m = multiplied_at F (out-Multiplied m)
 abbrev pub term_with : (Factor → Writer) → Term → Writer
 term_with F t = F t.first ▷ each_of (multiplied_with F) t.rest
 
-abbrev pub added_at : (Term → Writer) → open_expr.Added-F Added FactorKind Multiplied Expr Factor Term → Writer
+abbrev pub added_at : (Term → Writer) → open_expr.Added-F Added FactorKind Multiplied Expr Factor
+    Term → Writer
 added_at T (open_expr.Plus t) = say (codes "+") ▷ T t
 added_at T (open_expr.Minus t) = say (codes "-") ▷ T t
 

@@ -8,4 +8,5 @@ use Rattle.plex_ast.specs.Grammar.{tree}
 
 -- the tokens of the text spell the tree, lines aside, within the limits of nesting
 abbrev pub Spells : List ℕ → Tree → Type 0
-Spells text t = (tokens : List Token) × (tokens_of text ≡ Ok tokens) × tree false MOST_BRACKETS MOST_NESTED t tokens
+Spells text t = (tokens : List Token) × (tokens_of text ≡ Ok tokens)
+    × tree false MOST_BRACKETS MOST_NESTED t tokens

@@ -1,6 +1,8 @@
-// Blocks, whose brackets nest at most `room` deep and whose statements hold statements at most `deep` deep.
+// Blocks, whose brackets nest at most `room` deep and whose statements hold statements at most
+// `deep` deep.
 ghost use Rattle.std.specs.Prelude.{◌≡◌, IfOk};
-ghost use Rattle.plex_print.specs.Printed.{block_text, declare_text, decl_text, item_text, program_text, survey_text, surveyed_text};
+ghost use Rattle.plex_print.specs.Printed.{block_text, declare_text, decl_text, item_text};
+ghost use Rattle.plex_print.specs.Printed.{program_text, survey_text, surveyed_text};
 ghost use Rattle.plex_print.specs.Writing.{each_of};
 
 use crate::declaration::decl;

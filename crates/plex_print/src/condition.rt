@@ -1,6 +1,7 @@
 // Conditions, whose brackets nest at most `room` deep: what nests deeper is left out.
 ghost use Rattle.std.specs.Prelude.{◌≡◌, IfOk};
-ghost use Rattle.plex_print.specs.PrintedExpressions.{and_text, cond_text, conj_text, or_text, rel_text, relation_text};
+ghost use Rattle.plex_print.specs.PrintedExpressions.{and_text, cond_text, conj_text, or_text};
+ghost use Rattle.plex_print.specs.PrintedExpressions.{rel_text, relation_text};
 ghost use Rattle.plex_print.specs.Writing.{each_of};
 
 use crate::expression::expr;

@@ -1,7 +1,8 @@
 // Declarations.
 ghost use Rattle.std.specs.Prelude.{◌≡◌, IfOk};
 ghost use Rattle.std.specs.Prelude.{codes};
-ghost use Rattle.plex_print.specs.Printed.{decl_text, field_text, file_text, init_text, temporary_text, variable_text};
+ghost use Rattle.plex_print.specs.Printed.{decl_text, field_text, file_text, init_text};
+ghost use Rattle.plex_print.specs.Printed.{temporary_text, variable_text};
 ghost use Rattle.plex_print.specs.Writing.{each_of, flag_of, maybe_of, say};
 
 use crate::word::{end, name, number, word};

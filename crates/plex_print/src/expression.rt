@@ -1,6 +1,7 @@
 // Expressions, whose brackets nest at most `room` deep: what nests deeper is left out.
 ghost use Rattle.std.specs.Prelude.{◌≡◌, IfOk};
-ghost use Rattle.plex_print.specs.PrintedExpressions.{added_text, expr_text, factor_text, inside_text, multiplied_text, term_text};
+ghost use Rattle.plex_print.specs.PrintedExpressions.{added_text, expr_text, factor_text};
+ghost use Rattle.plex_print.specs.PrintedExpressions.{inside_text, multiplied_text, term_text};
 ghost use Rattle.plex_print.specs.Writing.{each_of};
 
 use crate::word::{name, number, word};

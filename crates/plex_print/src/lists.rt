@@ -1,6 +1,7 @@
 // Lists of names and of values, and receivers.
 ghost use Rattle.std.specs.Prelude.{◌≡◌, IfOk};
-ghost use Rattle.plex_print.specs.Printed.{comma_expr_text, comma_name_text, exprs_text, names_text, reference_text};
+ghost use Rattle.plex_print.specs.Printed.{comma_expr_text, comma_name_text, exprs_text};
+ghost use Rattle.plex_print.specs.Printed.{names_text, reference_text};
 ghost use Rattle.plex_print.specs.Writing.{each_of, maybe_of};
 
 use crate::expression::expr;

@@ -1,7 +1,8 @@
-// Statements, which hold statements at most `deep` deep, and whose brackets nest at most `room` deep: what nests deeper
-// is left out.
+// Statements, which hold statements at most `deep` deep, and whose brackets nest at most `room`
+// deep: what nests deeper is left out.
 ghost use Rattle.std.specs.Prelude.{◌≡◌, IfOk};
-ghost use Rattle.plex_print.specs.Printed.{body_text, case_text, else_text, if_text, kind_text, on_text, stmt_text, when_text};
+ghost use Rattle.plex_print.specs.Printed.{body_text, case_text, else_text, if_text, kind_text};
+ghost use Rattle.plex_print.specs.Printed.{on_text, stmt_text, when_text};
 ghost use Rattle.plex_print.specs.Writing.{each_of, maybe_of};
 
 use crate::condition::cond;

@@ -1,6 +1,9 @@
-// Statements that hold none, whose brackets nest at most `room` deep: what nests deeper is left out.
+// Statements that hold none, whose brackets nest at most `room` deep: what nests deeper is left
+// out.
 ghost use Rattle.std.specs.Prelude.{◌≡◌, IfOk};
-ghost use Rattle.plex_print.specs.Printed.{assign_text, exit_text, for_first_text, free_text, if_goto_text, retrieve_text, return_text, seize_text, send_text, set_field_text, to_label_text, transfer_text};
+ghost use Rattle.plex_print.specs.Printed.{assign_text, exit_text, for_first_text, free_text};
+ghost use Rattle.plex_print.specs.Printed.{if_goto_text, retrieve_text, return_text, seize_text};
+ghost use Rattle.plex_print.specs.Printed.{send_text, set_field_text, to_label_text, transfer_text};
 ghost use Rattle.plex_print.specs.Writing.{flag_of, say, ◌▷◌};
 ghost use Rattle.std.specs.Prelude.{codes};
 

@@ -1,6 +1,7 @@
 // Exchanges.
 ghost use Rattle.std.specs.Prelude.{◌≡◌, [], IfOk};
-ghost use Rattle.plex_print.specs.Printed.{block_text, data_text, shape_text, signal_text, tree_text};
+ghost use Rattle.plex_print.specs.Printed.{block_text, data_text, shape_text, signal_text};
+ghost use Rattle.plex_print.specs.Printed.{tree_text};
 ghost use Rattle.kept_trees.specs.Keeps.{IsKept};
 ghost use Rattle.plex_print.specs.Spelled.{Spells};
 ghost use Rattle.plex_print.specs.Writing.{each_of};
@@ -12,8 +13,8 @@ use plex_limits::{MOST_BRACKETS, MOST_NESTED};
 use plex_num::{Memory, Seq};
 use std::alloc::Global;
 
-/// A text whose tokens spell the tree, lines aside: each word is followed by a blank, and each semicolon by an LF. It
-/// fails only where memory is refused.
+/// A text whose tokens spell the tree, lines aside: each word is followed by a blank, and each
+/// semicolon by an LF. It fails only where memory is refused.
 #[tactic(auto, using(crate::proofs::Productions::all_spelled))]
 pub fn print_tree(alloc: Global, tree: &Tree) -> Result<Seq<u8>, Memory>
     ensures { IfOk result (λ text. IsKept tree.now → Spells text tree.now) }

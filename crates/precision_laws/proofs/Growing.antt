@@ -10,9 +10,14 @@ use Rattle.flow_points.specs.Facts.{Facts, IsClosed, IsLeast, Reached, fact}
 use Rattle.flow_points.proofs.Least.{least_in, source_alike}
 use Rattle.entry_summary.specs.declared.summary.Access.{Access}
 use Rattle.entry_summary.specs.declared.summary.Summary.{Summary}
-use Rattle.entry_summary.specs.Accesses.{Accesses, IsAccess, reads, reads_holder, writes, reads_field, writes_field, searches, reads_own, writes_own, opens_own, seizes, frees}
+use Rattle.entry_summary.specs.Accesses.{Accesses, IsAccess, reads, reads_holder, writes}
+use Rattle.entry_summary.specs.Accesses.{reads_field, writes_field, searches, reads_own, writes_own}
+use Rattle.entry_summary.specs.Accesses.{opens_own, seizes, frees}
 use Rattle.entry_summary.specs.Faults as faults
-use Rattle.entry_summary.specs.Faults.{FaultsAt, FlowLeads, MayFault, Once, PostsAt, SomeFaults, SourceMayBe, Then, TooManySends, Walk, no_record, no_receiver, too_wide, divides_by_zero, not_own, has_caller, no_caller, other_caller, too_deep}
+use Rattle.entry_summary.specs.Faults.{FaultsAt, FlowLeads, MayFault, Once, PostsAt, SomeFaults}
+use Rattle.entry_summary.specs.Faults.{SourceMayBe, Then, TooManySends, Walk, no_record}
+use Rattle.entry_summary.specs.Faults.{no_receiver, too_wide, divides_by_zero, not_own, has_caller}
+use Rattle.entry_summary.specs.Faults.{no_caller, other_caller, too_deep}
 use Rattle.entry_summary.specs.Summaries.{IsSummary, MaySendTo}
 use Rattle.precision_laws.specs.Summaries.{SaysNoMore}
 
@@ -39,7 +44,13 @@ module _ (x : Exchange) (P Q : Facts) (more : (f : Fact) → P f → Q f) (e : �
   accesses_more b p (frees temp file) = frees temp file
 
   access_more : (a : Access) → IsAccess x P e a → IsAccess x Q e a
-  access_more a i = record { at = i.at; point = i.point; stands = i.stands; reached = reached_more i.point i.reached; access = accesses_more i.at.block i.point i.access }
+  access_more a i = record {
+    at = i.at;
+    point = i.point;
+    stands = i.stands;
+    reached = reached_more i.point i.reached;
+    access = accesses_more i.at.block i.point i.access;
+  }
 
   level_more : (l : Level) → MaySendTo x P e l → MaySendTo x Q e l
   level_more l m = record { at = m.at; point = m.point; stands = m.stands; reached = reached_more m.point m.reached; sends = m.sends }
@@ -56,10 +67,17 @@ module _ (x : Exchange) (P Q : Facts) (more : (f : Fact) → P f → Q f) (e : �
   faults_more b p (has_caller l n end may above) = has_caller l n end (may_be_more p _ n may) above
   faults_more b p (no_caller answer values may) = no_caller answer values (may_be_more p _ 0 may)
   faults_more b p (other_caller answer values n may other) = other_caller answer values n (may_be_more p _ n may) other
-  faults_more b p (too_deep signal to values fresh name count answer is may) = too_deep signal to values fresh name count answer is (may_be_more p _ MOST_CALLERS may)
+  faults_more b p (too_deep signal to values fresh name count answer is may) =
+      too_deep signal to values fresh name count answer is (may_be_more p _ MOST_CALLERS may)
 
   some_more : SomeFaults x P e → SomeFaults x Q e
-  some_more s = record { at = s.at; point = s.point; stands = s.stands; reached = reached_more s.point s.reached; faults = faults_more s.at.block s.point s.faults }
+  some_more s = record {
+    at = s.at;
+    point = s.point;
+    stands = s.stands;
+    reached = reached_more s.point s.reached;
+    faults = faults_more s.at.block s.point s.faults;
+  }
 
   posts_more : (p : ℕ) → PostsAt x P e p → PostsAt x Q e p
   posts_more p h = record { at = h.at; stands = h.stands; reached = reached_more p h.reached; posts = h.posts }
@@ -90,5 +108,6 @@ module _ (x : Exchange) (P Q : Facts) (more : (f : Fact) → P f → Q f) (e : �
   }
 
 -- closed facts say all that the least ones say
-pub closed_say_more : (x : Exchange) (facts : List Fact) (e : ℕ) (less great : Summary) → IsClosed x (Contains facts) → IsSummary x (IsLeast x) e less → IsSummary x (Contains facts) e great → SaysNoMore less great
+pub closed_say_more : (x : Exchange) (facts : List Fact) (e : ℕ) (less great : Summary) → IsClosed x (Contains facts)
+    → IsSummary x (IsLeast x) e less → IsSummary x (Contains facts) e great → SaysNoMore less great
 closed_say_more x facts e less great closed is by = says_more x (IsLeast x) (Contains facts) (least_in x (Contains facts) closed) e less great is by

@@ -1,4 +1,5 @@
--- Summaries that say no more conflict in no other way, ask for no other test, and let all the jobs pass that pass by larger ones.
+-- Summaries that say no more conflict in no other way, ask for no other test, and let all the jobs
+-- pass that pass by larger ones.
 use Rattle.std.proofs.Common.{ℕ, ◌<◌, subst}
 use Rattle.job_types.specs.declared.job.JobStart.{JobStart}
 use Rattle.flow_points.specs.declared.fact.Value.{Value}
@@ -8,7 +9,11 @@ use Rattle.pair_tests.specs.declared.pair.Conflict.{Conflict}
 use Rattle.pair_tests.specs.declared.pair.Test.{Test}
 use Rattle.pair_tests.specs.declared.pair.Verdict.{Verdict}
 use Rattle.pair_tests.specs.declared.pair.Verdict.TheVariants.{Never, Tests}
-use Rattle.pair_tests.specs.Pairs.{HasNoConflict, IsConflict, IsFirstConflict, IsTest, IsVerdict, Passes, ShareField, ShareFile, ShareVariable, both_seize, later_frees, first_frees, on_variable, on_field, on_file, on_level, two_values, first_value, later_value, in_forlopp, holds_none}
+use Rattle.pair_tests.specs.Pairs.{HasNoConflict, IsConflict, IsFirstConflict, IsTest, IsVerdict}
+use Rattle.pair_tests.specs.Pairs.{Passes, ShareField, ShareFile, ShareVariable, both_seize}
+use Rattle.pair_tests.specs.Pairs.{later_frees, first_frees, on_variable, on_field, on_file}
+use Rattle.pair_tests.specs.Pairs.{on_level, two_values, first_value, later_value, in_forlopp}
+use Rattle.pair_tests.specs.Pairs.{holds_none}
 use Rattle.precision_laws.specs.Summaries.{IsNeverBy, SaysNoMore}
 
 module _ (first later great_first great_later : Summary) (f : SaysNoMore first great_first) (l : SaysNoMore later great_later) where

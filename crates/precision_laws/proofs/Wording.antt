@@ -1,5 +1,7 @@
--- A conflict over a variable, a field or a file, and a test of a field that fails, is about words that both jobs may touch.
-use Rattle.std.proofs.Common.{◌≡◌, ◌⊎◌, inl, inr, ℕ, ◌<◌, Bool, true, false, ◌||◌, List, refl, sym, ◌∙◌, arith}
+-- A conflict over a variable, a field or a file, and a test of a field that fails, is about words
+-- that both jobs may touch.
+use Rattle.std.proofs.Common.{◌≡◌, ◌⊎◌, inl, inr, ℕ, ◌<◌, Bool, true, false, ◌||◌, List, refl, sym}
+use Rattle.std.proofs.Common.{◌∙◌, arith}
 use Rattle.std.specs.Prelude.{slice_index}
 use Rattle.std.specs.List.{Contains}
 use Rattle.std.proofs.lemmas.Bool.{cases_eq, false≢true}
@@ -25,18 +27,24 @@ use Rattle.flow_table.proofs.Rowing.{place_fits}
 use Rattle.entry_summary.specs.declared.summary.Access.{Access}
 use Rattle.entry_summary.specs.declared.summary.Access.TheVariants as access
 use Rattle.entry_summary.specs.declared.summary.Summary.{Summary}
-use Rattle.entry_summary.specs.Accesses.{Accesses, IsForlopp, reads, reads_holder, writes, reads_field, writes_field, searches, reads_own, writes_own, opens_own, seizes, frees}
+use Rattle.entry_summary.specs.Accesses.{Accesses, IsForlopp, reads, reads_holder, writes}
+use Rattle.entry_summary.specs.Accesses.{reads_field, writes_field, searches, reads_own, writes_own}
+use Rattle.entry_summary.specs.Accesses.{opens_own, seizes, frees}
 use Rattle.entry_summary.specs.Summaries.{IsSummary}
 use Rattle.pair_tests.specs.declared.pair.Conflict.{Conflict}
 use Rattle.pair_tests.specs.declared.pair.Conflict.TheVariants as conflict
 use Rattle.pair_tests.specs.declared.pair.Test.{Test}
 use Rattle.pair_tests.specs.Pairs as pair
-use Rattle.pair_tests.specs.Pairs.{IsConflict, IsTest, Meet, Passes, ShareField, ShareVariable, TestHolds, on_variable, on_field, on_file, on_level, two_values, first_value, later_value, in_forlopp, holds_none}
+use Rattle.pair_tests.specs.Pairs.{IsConflict, IsTest, Meet, Passes, ShareField, ShareVariable}
+use Rattle.pair_tests.specs.Pairs.{TestHolds, on_variable, on_field, on_file, on_level, two_values}
+use Rattle.pair_tests.specs.Pairs.{first_value, later_value, in_forlopp, holds_none}
 use Rattle.start_permit.specs.Granted.{IsVariableWord, Lets, OneOf, Selects}
 use Rattle.permit_laws.proofs.Words.{lets, mark_word, variable_word}
 use Rattle.pair_laws.proofs.Naming.{AccessFits, access_fits}
 use Rattle.precision_laws.specs.Summaries.{IsSummaryOf, by_facts, by_least}
-use Rattle.precision_laws.specs.Words.{BothSelect, IsAtStake, IsShared, PassBesides, SharesField, SharesMarks, SharesRecord, SharesVariable, TellsRecord, both_seize, later_frees, first_frees}
+use Rattle.precision_laws.specs.Words.{BothSelect, IsAtStake, IsShared, PassBesides, SharesField}
+use Rattle.precision_laws.specs.Words.{SharesMarks, SharesRecord, SharesVariable, TellsRecord}
+use Rattle.precision_laws.specs.Words.{both_seize, later_frees, first_frees}
 
 -- what an access names is of the exchange
 
@@ -54,9 +62,17 @@ module _ (x : Exchange) (kept : IsExchange x) where
   stands_in : (P : Facts) (e b p : ℕ) (l : Layer) (a : Access) → IsOfBlock x b l → Accesses x P e b p l a → VariableStands x a
   stands_in P e b p l a h (reads m variable n) =
       let scope = scope_of x b h.block in
-      let fits = all_contained (ExprFits scope) (own_exprs m) n.expr h.fits.exprs.each n.own in
-      (_, variable_word x b variable h.block h.there (all_contained (NamedFits scope) (named_in n.expr) (NamedVariable variable) (names_fit scope n.expr fits) n.named))
-  stands_in P e b p l a h (reads_holder m variable held) = (_, variable_word x b variable h.block h.there (holder_variable x kept (scope_of x b h.block) m variable held h.fits.names))
+      let fits = all_contained (ExprFits scope) (own_exprs m) n.expr h.fits.exprs.each n.own in (
+        _,
+        variable_word x b variable h.block h.there
+            (all_contained (NamedFits scope) (named_in n.expr) (NamedVariable variable) (names_fit scope n.expr fits)
+            n.named),
+      )
+  stands_in P e b p l a h (reads_holder m variable held) = (
+    _,
+    variable_word x b variable h.block h.there
+        (holder_variable x kept (scope_of x b h.block) m variable held h.fits.names),
+  )
   stands_in P e b p l a h (writes variable value) = (_, variable_word x b variable h.block h.there h.fits.names)
   stands_in P e b p l a h (reads_field m file field pointer v n plain known) = tt
   stands_in P e b p l a h (writes_field file field pointer value v plain known) = tt
@@ -118,7 +134,8 @@ module _ (x : Exchange) (first later : Summary) (one : AllStand x first) (other 
   abbrev Touch : Summary → JobStart → ChainMap → Bool → ℕ → Type 0
   Touch s start chains write w = OneOf (Lets x s.accesses start chains write) s.accesses w
 
-  shared : (a b : JobStart) (chains : ChainMap) (w : ℕ) (u v : Bool) → (u || v) ≡ true → Touch first a chains u w → Touch later b chains v w → IsShared x first later a b chains w
+  shared : (a b : JobStart) (chains : ChainMap) (w : ℕ) (u v : Bool) → (u || v) ≡ true → Touch first a chains u w
+      → Touch later b chains v w → IsShared x first later a b chains w
   shared a b chains w true v is p q = inl (p, may_read v q)
     where
       may_read : (v : Bool) → Touch later b chains v w → Touch later b chains false w ⊎ Touch later b chains true w
@@ -159,20 +176,40 @@ module _ (x : Exchange) (first later : Summary) (one : AllStand x first) (other 
 
   -- marks
 
-  seizing_mark : (s : Summary) (start : JobStart) (chains : ChainMap) (file r : ℕ) (p : Placed) → IsFileAt x file p → r < p.file.size → Contains s.accesses (access.Seizes file) → Touch s start chains false (mark_cell p r)
-  seizing_mark s start chains file r p there below seizes_it = lets x s start chains false (access.Seizes file) (mark_cell p r) seizes_it tt (mark_word x (λ n. Unit {0}) file r p (record { there = there; within = below }) tt)
+  seizing_mark : (s : Summary) (start : JobStart) (chains : ChainMap) (file r : ℕ) (p : Placed) → IsFileAt x file p
+      → r < p.file.size → Contains s.accesses (access.Seizes file) → Touch s start chains false (mark_cell p r)
+  seizing_mark s start chains file r p there below seizes_it = lets x s start chains false (access.Seizes file)
+      (mark_cell p r) seizes_it tt (mark_word x (λ n. Unit {0}) file r p (record { there = there; within = below }) tt)
 
-  at_stake : (a b : JobStart) (chains : ChainMap) (file r : ℕ) (p : Placed) → IsFileAt x file p → r < p.file.size → IsAtStake first later a b chains file r → IsShared x first later a b chains (mark_cell p r)
+  at_stake : (a b : JobStart) (chains : ChainMap) (file r : ℕ) (p : Placed) → IsFileAt x file p → r < p.file.size
+      → IsAtStake first later a b chains file r → IsShared x first later a b chains (mark_cell p r)
   at_stake a b chains file r p there below (both_seize by_first by_later free) = inl (
-    lets x first a chains true (access.Seizes file) (mark_cell p r) by_first tt (record { placed = p; there = there; of_record = record { number = r; below = below; chosen = free; is = refl } }),
+    lets x first a chains true (access.Seizes file) (mark_cell p r) by_first tt
+        (record {
+          placed = p;
+          there = there;
+          of_record = record { number = r; below = below; chosen = free; is = refl };
+        }),
     inl (seizing_mark later b chains file r p there below by_later),
   )
   at_stake a b chains file r p there below (later_frees by_first by_later held) = inr (
     inl (seizing_mark first a chains file r p there below by_first),
-    lets x later b chains true (access.Frees file) (mark_cell p r) by_later refl (record { placed = p; there = there; of_record = record { number = r; below = below; chosen = inl held; is = refl } }),
+    lets x later b chains true (access.Frees file) (mark_cell p r) by_later refl
+        (record {
+          placed = p;
+          there = there;
+          of_record = record
+              { number = r; below = below; chosen = inl held; is = refl };
+        }),
   )
   at_stake a b chains file r p there below (first_frees by_first by_later held) = inl (
-    lets x first a chains true (access.Frees file) (mark_cell p r) by_first refl (record { placed = p; there = there; of_record = record { number = r; below = below; chosen = inl held; is = refl } }),
+    lets x first a chains true (access.Frees file) (mark_cell p r) by_first refl
+        (record {
+          placed = p;
+          there = there;
+          of_record = record
+              { number = r; below = below; chosen = inl held; is = refl };
+        }),
     inl (seizing_mark later b chains file r p there below by_later),
   )
 
@@ -250,7 +287,8 @@ module _ (x : Exchange) (first later : Summary) (one : AllStand x first) (other 
     no_conflict c (on_level level there above) = besides.apart c tt (on_level level there above)
 
     all_hold : (t : Test) → IsTest first later t → TestHolds a b t
-    all_hold t (two_values number k l share) = λ same. no_record_told number (Arg k) (Arg l) (slice_index a.job.values k) share (record { by_first = refl; by_later = same })
+    all_hold t (two_values number k l share) = λ same. no_record_told number (Arg k) (Arg l)
+        (slice_index a.job.values k) share (record { by_first = refl; by_later = same })
     all_hold t (first_value number k c share) = λ same. no_record_told number (Arg k) (Const c) c share (record { by_first = sym same; by_later = refl })
     all_hold t (later_value number l c share) = λ same. no_record_told number (Const c) (Arg l) c share (record { by_first = refl; by_later = sym same })
     all_hold t (in_forlopp may) = besides.tests t tt (in_forlopp may)

@@ -18,7 +18,8 @@ pub data IsSummaryOf (x : Exchange) (e : ℕ) (s : Summary) : Type 0 where
   by_facts : (facts : List Fact) → IsSummary x (Contains facts) e s → IsSummaryOf x e s
   by_least : IsSummary x (IsLeast x) e s → IsSummaryOf x e s
 
--- of one level, whose jobs have each access of the other ones, may send to each of their levels, and may fault where these may
+-- of one level, whose jobs have each access of the other ones, may send to each of their levels,
+-- and may fault where these may
 pub record SaysNoMore (less more : Summary) : Type 0 where
   pub level : less.level ≡ more.level
   pub accesses : (a : Access) → Contains less.accesses a → Contains more.accesses a

@@ -15,12 +15,14 @@ use Rattle.pair_tests.specs.declared.pair.Conflict.TheVariants as conflict
 use Rattle.pair_tests.specs.declared.pair.Test.{Test}
 use Rattle.pair_tests.specs.declared.pair.Test.TheVariants as test
 use Rattle.pair_tests.specs.Pairs.{IsConflict, IsTest, ShareField, TestHolds}
-use Rattle.start_permit.specs.Granted.{IsFieldNumber, IsFree, IsVariableWord, MayRead, MayWrite, Selects}
+use Rattle.start_permit.specs.Granted.{IsFieldNumber, IsFree, IsVariableWord, MayRead, MayWrite}
+use Rattle.start_permit.specs.Granted.{Selects}
 
 -- one of the two jobs may write the word, and the other one may read it or write it
 abbrev pub IsShared : Exchange → Summary → Summary → JobStart → JobStart → ChainMap → ℕ → Type 0
 IsShared x first later a b chains w =
-    (MayWrite x first a chains w × MayRead x later b chains w) ⊎ (MayRead x first a chains w × MayWrite x later b chains w)
+    (MayWrite x first a chains w × MayRead x later b chains w)
+    ⊎ (MayRead x first a chains w × MayWrite x later b chains w)
 
 -- variables
 
@@ -37,26 +39,29 @@ pub record BothSelect (u v : Value) (a b : JobStart) (number : ℕ) : Type 0 whe
   pub by_first : Selects a.job.values u number
   pub by_later : Selects b.job.values v number
 
--- the field of the number is one of a file, which has records; where both selectors tell a record that is below the size of the
--- file, the two jobs share the word of the field in it
-pub record SharesField (x : Exchange) (first later : Summary) (number : ℕ) (u v : Value) : Type 0 where
+-- the field of the number is one of a file, which has records; where both selectors tell a record
+-- that is below the size of the file, the two jobs share the word of the field in it
+pub record SharesField (x : Exchange) (first later : Summary) (number : ℕ) (u v : Value) : Type
+    0 where
   pub file : ℕ
   pub field : ℕ
   pub at : IsFieldNumber x number file field
   pub some : 0 < at.placed.file.size
-  pub shared : (a b : JobStart) (chains : ChainMap) (r : ℕ) → r < at.placed.file.size → BothSelect u v a b r
+  pub shared : (a b : JobStart) (chains : ChainMap) (r : ℕ) → r < at.placed.file.size
+      → BothSelect u v a b r
       → IsShared x first later a b chains (field_cell at.placed r field)
 
 -- so it is of some field and two selectors, which both tell this record
-pub record SharesRecord (x : Exchange) (first later : Summary) (a b : JobStart) (r : ℕ) : Type 0 where
+pub record SharesRecord (x : Exchange) (first later : Summary) (a b : JobStart) (r : ℕ) : Type
+    0 where
   pub number : ℕ
   pub by_first : Value
   pub by_later : Value
   pub field : SharesField x first later number by_first by_later
   pub both : BothSelect by_first by_later a b r
 
--- the record that a test keeps apart is told by this number, in a first job that starts so; other tests than those of fields tell
--- none
+-- the record that a test keeps apart is told by this number, in a first job that starts so; other
+-- tests than those of fields tell none
 abbrev pub TellsRecord : JobStart → Test → ℕ → Type 0
 TellsRecord a (test.Differ k l) r = r ≡ slice_index a.job.values k
 TellsRecord a (test.FirstNot k c) r = r ≡ c
@@ -65,14 +70,18 @@ TellsRecord a _ r = ⊥
 
 -- marks
 
--- a record that one of the two jobs may seize, and that the other one may seize as well, since it is free, or may give back, since
--- it holds it
-pub data IsAtStake (first later : Summary) (a b : JobStart) (chains : ChainMap) (file r : ℕ) : Type 0 where
-  both_seize : Contains first.accesses (access.Seizes file) → Contains later.accesses (access.Seizes file)
+-- a record that one of the two jobs may seize, and that the other one may seize as well, since it
+-- is free, or may give back, since it holds it
+pub data IsAtStake (first later : Summary) (a b : JobStart) (chains : ChainMap) (file r : ℕ) : Type
+    0 where
+  both_seize : Contains first.accesses (access.Seizes file)
+      → Contains later.accesses (access.Seizes file)
       → IsFree chains file r → IsAtStake first later a b chains file r
-  later_frees : Contains first.accesses (access.Seizes file) → Contains later.accesses (access.Frees file)
+  later_frees : Contains first.accesses (access.Seizes file)
+      → Contains later.accesses (access.Frees file)
       → holds b.chain file r ≡ true → IsAtStake first later a b chains file r
-  first_frees : Contains first.accesses (access.Frees file) → Contains later.accesses (access.Seizes file)
+  first_frees : Contains first.accesses (access.Frees file)
+      → Contains later.accesses (access.Seizes file)
       → holds a.chain file r ≡ true → IsAtStake first later a b chains file r
 
 -- the file has records; of each that is at stake and below its size the two jobs share the mark
@@ -80,7 +89,8 @@ pub record SharesMarks (x : Exchange) (first later : Summary) (file : ℕ) : Typ
   pub placed : Placed
   pub there : IsFileAt x file placed
   pub some : 0 < placed.file.size
-  pub shared : (a b : JobStart) (chains : ChainMap) (r : ℕ) → r < placed.file.size → IsAtStake first later a b chains file r
+  pub shared : (a b : JobStart) (chains : ChainMap) (r : ℕ) → r < placed.file.size
+      → IsAtStake first later a b chains file r
       → IsShared x first later a b chains (mark_cell placed r)
 
 -- what keeps two jobs apart besides
@@ -103,11 +113,12 @@ pub record SelectBelow (x : Exchange) (number : ℕ) (u v : Value) (a b : JobSta
   pub both : BothSelect u v a b r
   pub below : (file field : ℕ) (at : IsFieldNumber x number file field) → r < at.placed.file.size
 
--- no conflict over a file or a level keeps the two apart, no test of a fault, and no common forlopp; and where both selectors of a
--- field tell a record at all, they tell one that is there
+-- no conflict over a file or a level keeps the two apart, no test of a fault, and no common
+-- forlopp; and where both selectors of a field tell a record at all, they tell one that is there
 pub record PassBesides (x : Exchange) (first later : Summary) (a b : JobStart) : Type 0 where
   pub apart : (c : Conflict) → IsOfNoField c → IsConflict first later c → ⊥
   pub tests : (t : Test) → IsOfFault t → IsTest first later t → TestHolds a b t
   pub forlopps : a.job.forlopp ≡ b.job.forlopp → a.job.forlopp ≡ 0
-  pub records : (number : ℕ) (u v : Value) (r : ℕ) → ShareField first later number u v → BothSelect u v a b r
+  pub records : (number : ℕ) (u v : Value) (r : ℕ) → ShareField first later number u v
+      → BothSelect u v a b r
       → SelectBelow x number u v a b

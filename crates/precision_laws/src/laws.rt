@@ -22,7 +22,9 @@ ghost use Rattle.pair_tests.specs.declared.pair.Verdict.TheVariants.{Never, Test
 ghost use Rattle.pair_tests.specs.Pairs.{IsConflict, IsTest, IsVerdict, Passes, TestHolds};
 ghost use Rattle.interference_check.specs.Pairs.{OfPair};
 ghost use Rattle.precision_laws.specs.Summaries.{IsNeverBy, IsSummaryOf, SaysNoMore};
-ghost use Rattle.precision_laws.specs.Words.{BothSelect, IsShared, PassBesides, SharesField, SharesMarks, SharesRecord, SharesVariable, TellsRecord};
+ghost use Rattle.precision_laws.specs.Words.{BothSelect, IsShared, PassBesides, SharesField};
+ghost use Rattle.precision_laws.specs.Words.{SharesMarks, SharesRecord, SharesVariable};
+ghost use Rattle.precision_laws.specs.Words.{TellsRecord};
 
 /// Of one entry, fewer facts say no more than more facts, and the least facts no more than any that
 /// are closed: each access and each level is one by the other facts too, and where its jobs may

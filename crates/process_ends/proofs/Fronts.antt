@@ -1,5 +1,6 @@
 -- The first bytes of a text.
-use Rattle.std.proofs.Common.{◌≡◌, ℕ, ◌+◌, List, ◌++◌, length, take, min, Result, Ok, Err, IsOk, OnOk, arith, ap, sym, ◌∙◌}
+use Rattle.std.proofs.Common.{◌≡◌, ℕ, ◌+◌, List, ◌++◌, length, take, min, Result, Ok, Err, IsOk}
+use Rattle.std.proofs.Common.{OnOk, arith, ap, sym, ◌∙◌}
 use Rattle.std.proofs.lemmas.List.{take_min}
 use Rattle.std.proofs.Math.Seq.{take-append-add}
 

@@ -1,5 +1,6 @@
 // A shelf that tells which file could not be read.
-ghost use Rattle.std.specs.Prelude.{◌≡◌, ◌≤◌, ◌<◌, length, position, slice_get, None, Some, Err, IfOk, IfSome, MatchOption};
+ghost use Rattle.std.specs.Prelude.{◌≡◌, ◌≤◌, ◌<◌, length, position, slice_get, None, Some, Err};
+ghost use Rattle.std.specs.Prelude.{IfOk, IfSome, MatchOption};
 ghost use Rattle.std.specs.Str.{bytes_eq};
 ghost use Rattle.plex_io.specs.Causes.{Rose};
 ghost use Rattle.plex_io.specs.Files.{ReadGives, Lacks};

@@ -1,5 +1,6 @@
 -- How many instructions jobs make: there is one number, and more jobs make no fewer.
-use Rattle.std.proofs.Common.{◌≡◌, ⊎_elim, ℕ, zero, suc, ◌+◌, ◌<◌, ◌≤◌, List, None, refl, sym, ap, ◌∙◌, subst, arith}
+use Rattle.std.proofs.Common.{◌≡◌, ⊎_elim, ℕ, zero, suc, ◌+◌, ◌<◌, ◌≤◌, List, None, refl, sym, ap}
+use Rattle.std.proofs.Common.{◌∙◌, subst, arith}
 use Rattle.std.proofs.Math.Nat.{eq-or-lt_of_le}
 use Rattle.std.proofs.lemmas.Bool.{cases_order}
 use Rattle.std.proofs.lemmas.Option.{get_or_from_slice_get, same_Some}
@@ -37,13 +38,15 @@ one_count code start words n m a b =
     (cases_order n m)
 
 -- a job that is not over has not made all of them, and one that is over has
-pub not_all : (code : Code) (start : JobStart) (words : List ℕ) (made count : ℕ) → EndsAfter code start words count → made ≤ count → (own_run code start made words).run.over ≡ None → made < count
+pub not_all : (code : Code) (start : JobStart) (words : List ℕ) (made count : ℕ) → EndsAfter code start words count
+    → made ≤ count → (own_run code start made words).run.over ≡ None → made < count
 not_all code start words made count e le runs = ⊎_elim
     (λ same. absurd (none_is_none (own_run code start count words).run.over (subst (λ n. (own_run code start n words).run.over ≡ None) same runs) e.over))
     (λ less. less)
     (eq-or-lt_of_le {n = made} {m = count} le)
 
-pub all_of_them : (code : Code) (start : JobStart) (words : List ℕ) (made count : ℕ) → EndsAfter code start words count → made ≤ count → IsSome (own_run code start made words).run.over → made ≡ count
+pub all_of_them : (code : Code) (start : JobStart) (words : List ℕ) (made count : ℕ) → EndsAfter code start words count
+    → made ≤ count → IsSome (own_run code start made words).run.over → made ≡ count
 all_of_them code start words made count e le over = ⊎_elim
     (λ same. same)
     (λ less. absurd (none_is_none (own_run code start made words).run.over (e.runs made less) over))
@@ -54,7 +57,9 @@ pub record HasCount (code : Code) (start : JobStart) (words : List ℕ) : Type 0
   pub count : ℕ
   pub ends : EndsAfter code start words count
 
-count_from : (code : Code) (start : JobStart) (words : List ℕ) (n : ℕ) (m end : Machine) → own_run code start n words ≡ m → ((k : ℕ) → k < n → (own_run code start k words).run.over ≡ None) → IsSome end.run.over → Goes code.ops m end → HasCount code start words
+count_from : (code : Code) (start : JobStart) (words : List ℕ) (n : ℕ) (m end : Machine)
+    → own_run code start n words ≡ m → ((k : ℕ) → k < n → (own_run code start k words).run.over ≡ None)
+    → IsSome end.run.over → Goes code.ops m end → HasCount code start words
 count_from code start words n m end is none over here = record {
   count = n;
   ends = record { over = subst (λ (q : Machine). IsSome q.run.over) (sym is) over; runs = none };
@@ -69,7 +74,8 @@ count_from code start words n m end is none over (by_op op runs at allowed more)
     below_next (λ k. (own_run code start k words).run.over ≡ None) n none (ap (λ (q : Machine). q.run.over) is ∙ runs) in
     count_from code start words (suc n) (machine_step op m) end next before over more
 
-pub some_count : (code : Code) (start : JobStart) (words : List ℕ) (end : Machine) → Ends code.ops (begun (started code start) words) end → HasCount code start words
+pub some_count : (code : Code) (start : JobStart) (words : List ℕ) (end : Machine)
+    → Ends code.ops (begun (started code start) words) end → HasCount code start words
 unfolding alone
 some_count code start words end ends =
     count_from code start words 0 (begun (started code start) words) end refl (λ k lt. absurd (omega (arith, lt))) ends.over ends.goes

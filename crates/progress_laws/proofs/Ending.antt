@@ -1,5 +1,7 @@
--- Where the single run ends: it is over there, not before, and until then nothing is due between two turns.
-use Rattle.std.proofs.Common.{◌≡◌, ◌⊎◌, inl, inr, ⊎_elim, ℕ, zero, suc, ◌+◌, ◌<◌, ◌≤◌, Option, Some, None, refl, sym, ap, ◌∙◌, arith}
+-- Where the single run ends: it is over there, not before, and until then nothing is due between
+-- two turns.
+use Rattle.std.proofs.Common.{◌≡◌, ◌⊎◌, inl, inr, ⊎_elim, ℕ, zero, suc, ◌+◌, ◌<◌, ◌≤◌, Option, Some}
+use Rattle.std.proofs.Common.{None, refl, sym, ap, ◌∙◌, arith}
 use Rattle.std.proofs.lemmas.Bool.{cases_lt}
 use Rattle.std.proofs.lemmas.Option.{none-some}
 use Rattle.std.specs.Option.{option_map_or}
@@ -7,7 +9,8 @@ use Rattle.job_types.specs.declared.job.JobStart.{JobStart}
 use Rattle.exchange_model.specs.declared.exchange.Exchange.{Exchange}
 use Rattle.source_meaning.specs.Arrivals.{arrivals}
 use Rattle.source_meaning.specs.Job.{job}
-use Rattle.source_meaning.specs.SingleRun.{Ending, after, begun, end_state, ended_as, ending_at, jobs_at_end, next_start}
+use Rattle.source_meaning.specs.SingleRun.{Ending, after, begun, end_state, ended_as, ending_at}
+use Rattle.source_meaning.specs.SingleRun.{jobs_at_end, next_start}
 use Rattle.source_meaning.specs.State.{State}
 use Rattle.exchange_run.proofs.Ending.{before_end, ends_at}
 use Rattle.exchange_run.proofs.Resting.{quiet_again}
@@ -23,7 +26,9 @@ quiet_after x first (suc n) = by (next_start (after x first n)) (quiet_after x f
     s : State
     s = after x first n
 
-    by : (o : Option JobStart) → arrivals x s ≡ s → arrivals x (option_map_or (λ start. arrivals x (ended_as x start (job x start s.store) (begun s))) o s) ≡ option_map_or (λ start. arrivals x (ended_as x start (job x start s.store) (begun s))) o s
+    by : (o : Option JobStart) → arrivals x s ≡ s
+        → arrivals x (option_map_or (λ start. arrivals x (ended_as x start (job x start s.store) (begun s))) o s)
+        ≡ option_map_or (λ start. arrivals x (ended_as x start (job x start s.store) (begun s))) o s
     by None quiet = quiet
     by (Some start) quiet = quiet_again x (ended_as x start (job x start s.store) (begun s))
 

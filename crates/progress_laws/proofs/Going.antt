@@ -1,5 +1,8 @@
--- The core goes on until the single run is over, within a bound of events, and then stands where the single run ends.
-use Rattle.std.proofs.Common.{◌≡◌, ◌⊎◌, inl, inr, ⊎_elim, ℕ, zero, suc, ◌+◌, ◌<◌, ◌≤◌, Bool, true, false, List, [], ◌∷◌, length, Option, Some, None, slice_get, refl, sym, ap, ◌∙◌, subst, arith}
+-- The core goes on until the single run is over, within a bound of events, and then stands where
+-- the single run ends.
+use Rattle.std.proofs.Common.{◌≡◌, ◌⊎◌, inl, inr, ⊎_elim, ℕ, zero, suc, ◌+◌, ◌<◌, ◌≤◌, Bool, true}
+use Rattle.std.proofs.Common.{false, List, [], ◌∷◌, length, Option, Some, None, slice_get, refl}
+use Rattle.std.proofs.Common.{sym, ap, ◌∙◌, subst, arith}
 use Rattle.std.proofs.lemmas.Bool.Decides.{nat_tests}
 use Rattle.std.proofs.lemmas.List.{length-map}
 use Rattle.std.proofs.lemmas.Option.{none-some}
@@ -56,7 +59,8 @@ line_waits (l ∷ rest) s n is none waits = by (nat_le l.after s.ended) refl non
     by true le idle = cc
     by false le idle = grind (arith, nat_tests, le, is)
 
-module _ (x : Exchange) (kept : IsExchange x) (code : Code) (faithful : Faithful x code) (facts : KeptSummaries) (pairs : PairsGive x (MayFollow facts)) (first : State) (limit workers : ℕ) (worker : 0 < workers) where
+module _ (x : Exchange) (kept : IsExchange x) (code : Code) (faithful : Faithful x code) (facts : KeptSummaries)
+    (pairs : PairsGive x (MayFollow facts)) (first : State) (limit workers : ℕ) (worker : 0 < workers) where
   abbrev After : ℕ → Core → Type 0
   After n c = Paced x kept code faithful facts pairs first limit n c
 
@@ -135,8 +139,10 @@ module _ (x : Exchange) (kept : IsExchange x) (code : Code) (faithful : Faithful
         let h = f.shares in
         let long : length c.window ≡ length f.jobs = ap length f.window ∙ length-map f.jobs (stands_at code s.store) in
         let ended : c.state.ended ≡ s.ended = ap (λ (t : State). t.ended) h.ahead.same in
-        let few : 0 < length f.jobs → s.ended + length f.jobs ≤ limit = λ some. (let le = p.few (omega (arith, some, long)) in omega (arith, le, long, ended)) in
-        let r = window_makes x kept code faithful facts pairs first limit f.jobs c.retired s f.turn_is h.valid h.ahead.window h.passes few p.ways p.before p.retired in
+        let few : 0 < length f.jobs → s.ended + length f.jobs
+        ≤ limit = λ some. (let le = p.few (omega (arith, some, long)) in omega (arith, le, long, ended)) in
+        let r = window_makes x kept code faithful facts pairs first limit f.jobs c.retired s f.turn_is h.valid
+        h.ahead.window h.passes few p.ways p.before p.retired in
         let fewer = no_more x first limit (c.retired + length f.jobs) (all_go x code limit first (c.retired + length f.jobs) r.total r.made) in
         let less = no_fewer x code limit first jobs (c.retired + length f.jobs) r.total instructions fewer r.made make in
         let more = r.most in
@@ -177,7 +183,9 @@ module _ (x : Exchange) (kept : IsExchange x) (code : Code) (faithful : Faithful
     pub comes : (fuel n : ℕ) (c : Core) → After n c → most ≤ n + fuel → ComesToEnd k first limit c
     unfolding Runs
     comes zero n c p le = ⊎_elim
-        (λ h. absurd (let less = bounded (suc n) (after_event x code facts workers c h.event h.can) (paced_event x kept code faithful facts pairs first limit workers n c h.event h.can p) in omega (arith, less, le)))
+        (λ h. absurd (let less = bounded (suc n) (after_event x code facts workers c h.event h.can)
+        (paced_event x kept code faithful facts pairs first limit workers n c h.event h.can p) in omega
+        (arith, less, le)))
         (λ o. record { events = []; core = c; runs = refl; ends = at_end n c p o })
         (event_or_over n c p)
     comes (suc fuel) n c p le = ⊎_elim

@@ -1,6 +1,9 @@
--- What each event adds: how many events have happened is told by the jobs that have retired, those of the window, and the instructions
--- that these have made. None of them has made more than it makes to its end.
-use Rattle.std.proofs.Common.{◌≡◌, ℕ, zero, suc, ◌+◌, ◌*◌, ◌<◌, ◌≤◌, List, [], ◌∷◌, ◌++◌, length, Some, None, slice_get, refl, sym, ap, ◌∙◌, subst, arith, length-append, length-set}
+-- What each event adds: how many events have happened is told by the jobs that have retired, those
+-- of the window, and the instructions that these have made. None of them has made more than it
+-- makes to its end.
+use Rattle.std.proofs.Common.{◌≡◌, ℕ, zero, suc, ◌+◌, ◌*◌, ◌<◌, ◌≤◌, List, [], ◌∷◌, ◌++◌, length}
+use Rattle.std.proofs.Common.{Some, None, slice_get, refl, sym, ap, ◌∙◌, subst, arith}
+use Rattle.std.proofs.Common.{length-append, length-set}
 use Rattle.std.proofs.lemmas.List.{length-map, map-append, map-set}
 use Rattle.std.proofs.lemmas.Option.{none-some, same_Some}
 use Rattle.std.specs.Prelude.{IsSome, slice_set}
@@ -45,8 +48,11 @@ use Rattle.interleave_core.specs.Cores.{Core, begun_jobs, issues, lets_go, settl
 use Rattle.interleave_core.specs.Follows.{own_run}
 use Rattle.interleave_core.specs.Runs.{Runs}
 use Rattle.interleave_core.specs.Runs as runs
-use Rattle.interleave_core.proofs.Following.{Beside, first_at, job_at, stands_at, starts_in, window_of}
-use Rattle.interleave_core.proofs.Joining.{AllPass, MovesOn, PairsGive, Progress, Shares, all_fit, all_map_same, all_move_on, beginning, issue, one_more, retire, run_of, starts_of, step}
+use Rattle.interleave_core.proofs.Following.{Beside, first_at, job_at, stands_at, starts_in}
+use Rattle.interleave_core.proofs.Following.{window_of}
+use Rattle.interleave_core.proofs.Joining.{AllPass, MovesOn, PairsGive, Progress, Shares, all_fit}
+use Rattle.interleave_core.proofs.Joining.{all_map_same, all_move_on, beginning, issue, one_more}
+use Rattle.interleave_core.proofs.Joining.{retire, run_of, starts_of, step}
 use Rattle.progress_laws.specs.Counts.{EndsAfter, JobsMake, NextMakes}
 use Rattle.progress_laws.proofs.Counting.{all_of_them, not_all, some_count}
 
@@ -76,13 +82,16 @@ pub made_none : (js : List Progress) → length js ≡ 0 → made_by js ≡ 0
 made_none [] none = refl
 made_none (j ∷ js) none = absurd (omega (arith, none))
 
-all_step : (P : Progress → Type 0) (js : List Progress) (place : ℕ) (j : Progress) → slice_get js place ≡ Some j → AllByRecursion P js → P (one_more j) → AllByRecursion P (slice_set js place (one_more j))
+all_step : (P : Progress → Type 0) (js : List Progress) (place : ℕ) (j : Progress) → slice_get js place ≡ Some j
+    → AllByRecursion P js → P (one_more j) → AllByRecursion P (slice_set js place (one_more j))
 all_step P [] place j at all new = absurd (none-some j at)
 all_step P (k ∷ js) zero j at all new = (new, all.1)
 all_step P (k ∷ js) (suc n) j at all new = (all.0, all_step P js n j at all.1 new)
 
 -- a way is the same over other words over which all runs of the job are
-way_moves : (code : Code) (base now : List ℕ) (k : Progress) → ((n : ℕ) → (own_run code k.start n now).run ≡ (own_run code k.start n base).run) → OnItsWay code base k → OnItsWay code now k
+way_moves : (code : Code) (base now : List ℕ) (k : Progress)
+    → ((n : ℕ) → (own_run code k.start n now).run ≡ (own_run code k.start n base).run) → OnItsWay code base k
+    → OnItsWay code now k
 way_moves code base now k same way = record {
   count = way.count;
   ends = record {
@@ -98,7 +107,9 @@ line_after : (lines : List Coming) (n m : ℕ) → n ≡ m → IsBefore (next_co
 line_after [] n m is before = tt
 line_after (l ∷ rest) n m is before = let lt : n < l.after = before in omega (arith, lt, is)
 
-settles_same : (x : Exchange) (code : Code) (base : List ℕ) (js : List Progress) (oldest : JobStart) (done : JobDone) (s : State) → settles x (window_of code base js) (retires x oldest done s) ≡ books.settles x oldest done (starts_of js) s
+settles_same : (x : Exchange) (code : Code) (base : List ℕ) (js : List Progress) (oldest : JobStart) (done : JobDone)
+    (s : State) → settles x (window_of code base js) (retires x oldest done s)
+    ≡ books.settles x oldest done (starts_of js) s
 settles_same x code base [] oldest done s = refl
 settles_same x code base (j ∷ js) oldest done s = refl
 
@@ -108,7 +119,8 @@ settled_ended x (job ∷ rest) s = refl
 
 -- ## In an exchange
 
-module _ (x : Exchange) (kept : IsExchange x) (code : Code) (faithful : Faithful x code) (facts : KeptSummaries) (pairs : PairsGive x (MayFollow facts)) (first : State) (limit : ℕ) where
+module _ (x : Exchange) (kept : IsExchange x) (code : Code) (faithful : Faithful x code) (facts : KeptSummaries)
+    (pairs : PairsGive x (MayFollow facts)) (first : State) (limit : ℕ) where
   abbrev Make : ℕ → ℕ → Type 0
   Make n total = JobsMake x code limit first n total
 
@@ -127,22 +139,28 @@ module _ (x : Exchange) (kept : IsExchange x) (code : Code) (faithful : Faithful
 
   -- ## The next state
 
-  -- the runs of jobs that pass with the one that retires are the same over the words of the next state
-  ways_move : (s : State) (v : IsValid x s) (a : JobStart) (fits_a : IsFitting x s a) (rest : List JobStart) → IsWindow x s (a ∷ rest) → (js : List Progress) → AllByRecursion (IsFitting x s) (starts_of js) → AllByRecursion (MayFollow facts a) (starts_of js)
+  -- the runs of jobs that pass with the one that retires are the same over the words of the next
+  -- state
+  ways_move : (s : State) (v : IsValid x s) (a : JobStart) (fits_a : IsFitting x s a) (rest : List JobStart)
+      → IsWindow x s (a ∷ rest) → (js : List Progress) → AllByRecursion (IsFitting x s) (starts_of js)
+      → AllByRecursion (MayFollow facts a) (starts_of js)
       → Ways s.store js → Ways (turn x s).store js
   ways_move s v a fits_a rest w [] fits pass ways = tt
   ways_move s v a fits_a rest w (k ∷ js) fits pass ways =
       let same : (n : ℕ) → (own_run code k.start n (turn x s).store).run ≡ (own_run code k.start n s.store).run =
-      λ n. ap (λ (m : Machine). m.run) (all_move_on x kept code faithful (MayFollow facts) pairs s v a fits_a (record { start = k.start; made = n } ∷ []) rest (fits.0, tt) (pass.0, tt) w).0.same in
+      λ n. ap (λ (m : Machine). m.run) (all_move_on x kept code faithful (MayFollow facts) pairs s v a fits_a
+      (record { start = k.start; made = n } ∷ []) rest (fits.0, tt) (pass.0, tt) w).0.same in
       (way_moves code s.store (turn x s).store k same ways.0, ways_move s v a fits_a rest w js fits.1 pass.1 ways.1)
 
   window_move : (base now : List ℕ) (js : List Progress) → AllByRecursion (MovesOn code base now) js → window_of code base js ≡ window_of code now js
   window_move base now js all =
       all_map_same (stands_at code base) (stands_at code now) js
-      (all_weaker (MovesOn code base now) (λ j. stands_at code base j ≡ stands_at code now j) js (λ j m. ap (λ (q : Machine). record { start = j.start; run = q.run }) (sym m.same)) all)
+      (all_weaker (MovesOn code base now) (λ j. stands_at code base j ≡ stands_at code now j) js
+      (λ j m. ap (λ (q : Machine). record { start = j.start; run = q.run }) (sym m.same)) all)
 
   -- one more job of the single run
-  next_makes : (s : State) (n before count : ℕ) (start : JobStart) → s ≡ after x first n → next_start s ≡ Some start → s.ended < limit → EndsAfter code start s.store count → Make n before → Make (suc n) (before + count)
+  next_makes : (s : State) (n before count : ℕ) (start : JobStart) → s ≡ after x first n → next_start s ≡ Some start
+      → s.ended < limit → EndsAfter code start s.store count → Make n before → Make (suc n) (before + count)
   next_makes s n before count start is next lt ends made = record {
     before = before;
     made = made;
@@ -160,12 +178,17 @@ module _ (x : Exchange) (kept : IsExchange x) (code : Code) (faithful : Faithful
       let s = f.state in
       let js = f.jobs in
       let start = can.start in
-      let new = starts_in (λ older. MayFollow facts older start) code s.store js (subst (AllByRecursion (λ (older : WindowJob). MayFollow facts older.start start)) f.window can.follows) in
-      let long : length c.window ≡ length (starts_of js) = ap length f.window ∙ length-map js (stands_at code s.store) ∙ sym (length-map js (λ (j : Progress). j.start)) in
-      let line = line_after c.state.lines (c.state.ended + length c.window) (c.state.ended + length (starts_of js)) (ap (λ n. c.state.ended + n) long) can.line in
+      let new = starts_in (λ older. MayFollow facts older start) code s.store js
+      (subst (AllByRecursion (λ (older : WindowJob). MayFollow facts older.start start)) f.window can.follows) in
+      let long : length c.window ≡ length (starts_of js) = ap length f.window ∙ length-map js (stands_at code s.store)
+      ∙ sym (length-map js (λ (j : Progress). j.start)) in
+      let line = line_after c.state.lines (c.state.ended + length c.window) (c.state.ended + length (starts_of js))
+      (ap (λ n. c.state.ended + n) long) can.line in
       let shares = issue x kept code faithful (MayFollow facts) pairs s js c.state start f.shares can.picked new line in
       let fit_all = all_fit x kept code faithful (MayFollow facts) pairs s (js ++ beginning start ∷ []) (begun c.state) shares in
-      let fits : IsFitting x s start = all_last (IsFitting x s) (starts_of js) start (subst (AllByRecursion (IsFitting x s)) (map-append (λ (j : Progress). j.start) js (beginning start ∷ [])) fit_all) in
+      let fits : IsFitting x s start = all_last (IsFitting x s) (starts_of js) start
+      (subst (AllByRecursion (IsFitting x s)) (map-append (λ (j : Progress). j.start) js (beginning start ∷ []))
+      fit_all) in
       let means = faithful.runs s start shares.valid fits in
       let found = some_count code start s.store means.end means.ends in
       let more = length-append c.window (record { start = start; run = started code start } ∷ []) in
@@ -178,18 +201,21 @@ module _ (x : Exchange) (kept : IsExchange x) (code : Code) (faithful : Faithful
           state = s;
           jobs = js ++ beginning start ∷ [];
           turn_is = f.turn_is;
-          window = ap (λ l. l ++ record { start = start; run = started code start } ∷ []) f.window ∙ sym (map-append (stands_at code s.store) js (beginning start ∷ []));
+          window = ap (λ l. l ++ record { start = start; run = started code start } ∷ []) f.window
+              ∙ sym (map-append (stands_at code s.store) js (beginning start ∷ []));
           shares = shares;
         };
         limited = p.limited;
         few = λ some. omega (arith, more, lt, limited);
-        ways = all_append (OnItsWay code s.store) js (beginning start ∷ []) p.ways (record { count = found.count; ends = found.ends; within = omega arith }, tt);
+        ways = all_append (OnItsWay code s.store) js (beginning start ∷ []) p.ways
+            (record { count = found.count; ends = found.ends; within = omega arith }, tt);
         before = p.before;
         retired = p.retired;
         counted = omega (arith, more, made, counted);
       }
 
-  paced_step : (n : ℕ) (c : Core) (place : ℕ) (job : WindowJob) → slice_get c.window place ≡ Some job → job.run.over ≡ None → Paced n c → Paced (suc n) (steps code place job c)
+  paced_step : (n : ℕ) (c : Core) (place : ℕ) (job : WindowJob) → slice_get c.window place ≡ Some job
+      → job.run.over ≡ None → Paced n c → Paced (suc n) (steps code place job c)
   paced_step n c place job at runs p =
       let f = p.beside in
       let s = f.state in
@@ -200,7 +226,9 @@ module _ (x : Exchange) (kept : IsExchange x) (code : Code) (faithful : Faithful
       let made = step x kept code faithful (MayFollow facts) pairs s js c.state f.shares place j r.there here in
       let way = all_at (OnItsWay code s.store) js place j p.ways r.there in
       let lt = not_all code j.start s.store j.made way.count way.ends way.within here in
-      let long : length (steps code place (stands_at code s.store j) c).window ≡ length c.window = length-set c.window place (record { start = j.start; run = (stepped code.ops (run_of code s.store j).run c.state.store).run }) in
+      let long : length (steps code place (stands_at code s.store j) c).window
+      ≡ length c.window = length-set c.window place
+      (record { start = j.start; run = (stepped code.ops (run_of code s.store j).run c.state.store).run }) in
       let more = made_step js place j r.there in
       let few = p.few in
       let counted = p.counted in
@@ -224,7 +252,8 @@ module _ (x : Exchange) (kept : IsExchange x) (code : Code) (faithful : Faithful
         counted = omega (arith, long, more, counted);
       })
 
-  paced_retire : (n : ℕ) (c : Core) (oldest : WindowJob) (younger : List WindowJob) → c.window ≡ oldest ∷ younger → IsSome oldest.run.over → Paced n c → Paced (suc n) (lets_go x oldest younger c)
+  paced_retire : (n : ℕ) (c : Core) (oldest : WindowJob) (younger : List WindowJob) → c.window ≡ oldest ∷ younger
+      → IsSome oldest.run.over → Paced n c → Paced (suc n) (lets_go x oldest younger c)
   paced_retire n c oldest younger is over p =
       let f = p.beside in
       let s = f.state in
@@ -236,7 +265,8 @@ module _ (x : Exchange) (kept : IsExchange x) (code : Code) (faithful : Faithful
       let t = retire x kept code faithful (MayFollow facts) pairs s j js c.state h over_now in
       let own = run_of code s.store j in
       let done = done_of own.run.own own.run.over in
-      let same : settles x (window_of code s.store js) (retires x j.start done c.state) ≡ books.settles x j.start (done_by (job x j.start s.store)) (starts_of js) c.state =
+      let same : settles x (window_of code s.store js) (retires x j.start done c.state)
+      ≡ books.settles x j.start (done_by (job x j.start s.store)) (starts_of js) c.state =
       settles_same x code s.store js j.start done c.state ∙ ap (λ d. books.settles x j.start d (starts_of js) c.state) t.done in
       let fits = all_fit x kept code faithful (MayFollow facts) pairs s (j ∷ js) c.state h in
       let ways : Ways s.store (j ∷ js) = subst (Ways s.store) r.here p.ways in
@@ -248,7 +278,8 @@ module _ (x : Exchange) (kept : IsExchange x) (code : Code) (faithful : Faithful
       let le : c.state.ended + length c.window ≤ limit = p.few (omega (arith, long)) in
       let ended : c.state.ended ≡ s.ended = ap (λ (u : State). u.ended) h.ahead.same in
       let lt : s.ended < limit = omega (arith, le, ended, long) in
-      let one : (lets_go x (stands_at code s.store j) left c).state.ended ≡ c.state.ended + 1 = settled_ended x left (retires x j.start done c.state) ∙ (retire_keeps x j.start done c.state).ended in
+      let one : (lets_go x (stands_at code s.store j) left c).state.ended ≡ c.state.ended
+      + 1 = settled_ended x left (retires x j.start done c.state) ∙ (retire_keeps x j.start done c.state).ended in
       let number : suc c.retired ≡ c.retired + 1 = omega arith in
       let made : made_by f.jobs ≡ made_by (j ∷ js) = ap made_by r.here in
       let counted = p.counted in
@@ -272,12 +303,14 @@ module _ (x : Exchange) (kept : IsExchange x) (code : Code) (faithful : Faithful
 
   -- ## Events
 
-  pub paced_event : (workers : ℕ) (n : ℕ) (c : Core) (e : CoreEvent) (can : IsAllowed facts workers c e) → Paced n c → Paced (suc n) (after_event x code facts workers c e can)
+  pub paced_event : (workers : ℕ) (n : ℕ) (c : Core) (e : CoreEvent) (can : IsAllowed facts workers c e) → Paced n c
+      → Paced (suc n) (after_event x code facts workers c e can)
   paced_event workers n c Issue can p = paced_issue workers n c can p
   paced_event workers n c (Step number) can p = paced_step n c can.place can.job can.there can.runs p
   paced_event workers n c Retire can p = paced_retire n c can.oldest can.younger can.first can.over p
 
-  pub paced_runs : (workers : ℕ) (events : List CoreEvent) (n : ℕ) (c d : Core) → Paced n c → Runs (runs.setting x code facts workers) events c d → Paced (n + length events) d
+  pub paced_runs : (workers : ℕ) (events : List CoreEvent) (n : ℕ) (c d : Core) → Paced n c
+      → Runs (runs.setting x code facts workers) events c d → Paced (n + length events) d
   unfolding Runs
   paced_runs workers [] n c d p is =
       let same : n ≡ n + 0 = omega arith in
@@ -324,7 +357,10 @@ module _ (x : Exchange) (kept : IsExchange x) (code : Code) (faithful : Faithful
   window_then : (s : State) → IsValid x s → (a : JobStart) (rest : List JobStart) → IsWindow x s (a ∷ rest) → IsWindow x (turn x s) rest
   window_then s v a rest w = (ahead_retire x s v a rest (all_begun (jobs_of (a ∷ rest)) s) (record { window = w; same = refl })).window
 
-  pub window_makes : (js : List Progress) (n : ℕ) (s : State) → s ≡ after x first n → IsValid x s → IsWindow x s (starts_of js) → AllPass (MayFollow facts) (starts_of js) → (0 < length js → s.ended + length js ≤ limit) → Ways s.store js → (before : ℕ) → Make n before → MakeAsMany (n + length js) (before + made_by js)
+  pub window_makes : (js : List Progress) (n : ℕ) (s : State) → s ≡ after x first n → IsValid x s
+      → IsWindow x s (starts_of js) → AllPass (MayFollow facts) (starts_of js)
+      → (0 < length js → s.ended + length js ≤ limit) → Ways s.store js → (before : ℕ) → Make n before
+      → MakeAsMany (n + length js) (before + made_by js)
   window_makes [] n s is v w pass few ways before made =
       let same : n ≡ n + 0 = omega arith in
       record { total = before; made = subst (λ k. Make k before) same made; most = omega arith }
@@ -338,7 +374,9 @@ module _ (x : Exchange) (kept : IsExchange x) (code : Code) (faithful : Faithful
       let ended = turn_ended x s limit (goes_on limit s j.start next lt) in
       let number : n + 1 ≡ suc n = omega arith in
       let turned : turn x s ≡ after x first (suc n) = ap (turn x) is ∙ sym (after_later x first n) ∙ ap (after x first) number in
-      let later = window_makes js (suc n) (turn x s) turned (turn_valid x kept s v) (window_then s v j.start (starts_of js) w) pass.1 (λ some. omega (arith, ended, le)) (ways_move s v j.start fits.0 (starts_of js) w js fits.1 pass.0 ways.1) (before + way.count) one in
+      let later = window_makes js (suc n) (turn x s) turned (turn_valid x kept s v)
+      (window_then s v j.start (starts_of js) w) pass.1 (λ some. omega (arith, ended, le))
+      (ways_move s v j.start fits.0 (starts_of js) w js fits.1 pass.0 ways.1) (before + way.count) one in
       let same : suc n + length js ≡ n + length (j ∷ js) = omega arith in
       let most = later.most in
       let within = way.within in

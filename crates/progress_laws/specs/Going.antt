@@ -23,7 +23,8 @@ pub record MayBegin (k : Setting) (b : Account) (words : List ℕ) : Type 0 wher
   pub worker : 0 < k.workers
 
 -- these events, each as it is allowed, lead from such books and words to the core
-pub record IsReached (k : Setting) (b : Account) (words : List ℕ) (events : List CoreEvent) (c : Core) : Type 0 where
+pub record IsReached (k : Setting) (b : Account) (words : List ℕ) (events : List CoreEvent)
+    (c : Core) : Type 0 where
   pub begins : MayBegin k b words
   pub runs : Runs k events (opened_core b words) c
 
@@ -41,8 +42,8 @@ pub record IsOver (c : Core) : Type 0 where
   pub empty : c.window ≡ []
   pub over : IsSome (ending_at c.limit c.state)
 
--- the core is where the single run from this first state ends: as many jobs have retired as the single run has, its state is the
--- single run's, and no job is left in the window
+-- the core is where the single run from this first state ends: as many jobs have retired as the
+-- single run has, its state is the single run's, and no job is left in the window
 pub record IsSingleEnd (x : Exchange) (first : State) (limit : ℕ) (c : Core) : Type 0 where
   pub empty : c.window ≡ []
   pub state : c.state ≡ end_state x limit first

@@ -1,5 +1,6 @@
 -- The events of each kind, counted.
-use Rattle.std.proofs.Common.{◌≡◌, ℕ, ◌+◌, ◌<◌, ◌≤◌, ◌^◌, Bool, List, [], ◌∷◌, length, cond, refl, sym, ap, ◌∙◌, arith}
+use Rattle.std.proofs.Common.{◌≡◌, ℕ, ◌+◌, ◌<◌, ◌≤◌, ◌^◌, Bool, List, [], ◌∷◌, length, cond, refl}
+use Rattle.std.proofs.Common.{sym, ap, ◌∙◌, arith}
 use Rattle.std.specs.List.{count_by}
 use Rattle.std.proofs.lemmas.List.Sums.{sum_by-cons, count_by-le-length}
 use Rattle.source_meaning.specs.State.{RunEvent}
@@ -29,7 +30,8 @@ tally_room t left all few so_far = record {
   lost = omega (arith, few, so_far.lost, count_by-le-length is_lost all);
 }
 
-counted : (q : RunEvent → Bool) (n m : ℕ) (left rest all : List RunEvent) (e : RunEvent) → left ≡ e ∷ rest → m ≡ n + cond (q e) 1 0 → n + count_by q left ≡ count_by q all → m + count_by q rest ≡ count_by q all
+counted : (q : RunEvent → Bool) (n m : ℕ) (left rest all : List RunEvent) (e : RunEvent) → left ≡ e ∷ rest
+    → m ≡ n + cond (q e) 1 0 → n + count_by q left ≡ count_by q all → m + count_by q rest ≡ count_by q all
 counted q n m left rest all e is more so_far =
     let first : count_by q left ≡ cond (q e) 1 0 + count_by q rest = ap (count_by q) is ∙ sum_by-cons (λ x. cond (q x) 1 0) e rest in
     omega (arith, first, more, so_far)
@@ -41,7 +43,8 @@ tally_more t u left rest all e is one so_far = record {
   lost = counted is_lost t.lost u.lost left rest all e is one.lost so_far.lost;
 }
 
-pub tally_end : (t : Tally) (left all : List RunEvent) → left ≡ [] → Tallies t left all → (t.outs ≡ count_by is_out all) × (t.releases ≡ count_by is_release all) × (t.lost ≡ count_by is_lost all)
+pub tally_end : (t : Tally) (left all : List RunEvent) → left ≡ [] → Tallies t left all
+    → (t.outs ≡ count_by is_out all) × (t.releases ≡ count_by is_release all) × (t.lost ≡ count_by is_lost all)
 tally_end t left all none so_far = (
   omega (arith, so_far.outs, ap (count_by is_out) none),
   omega (arith, so_far.releases, ap (count_by is_release) none),

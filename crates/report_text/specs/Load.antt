@@ -1,5 +1,5 @@
--- The summary of a load, line by line: how many calls, ended jobs, signals that left the exchange, released forlopps and lost
--- lines there were, and how the run ended.
+-- The summary of a load, line by line: how many calls, ended jobs, signals that left the exchange,
+-- released forlopps and lost lines there were, and how the run ended.
 use Rattle.std.specs.Prelude.{ℕ, Bool, true, false, List, [], ◌∷◌, ◌++◌, codes}
 use Rattle.std.specs.List.{count_by}
 use Rattle.std.specs.Fmt.{decimal}

@@ -1,5 +1,6 @@
--- How a report names what has a number: signals, blocks, points and records by the names of the exchange, and faults by their
--- words. What an exchange does not have is named by no bytes, so that no name asks anything of a number.
+-- How a report names what has a number: signals, blocks, points and records by the names of the
+-- exchange, and faults by their words. What an exchange does not have is named by no bytes, so that
+-- no name asks anything of a number.
 use Rattle.std.specs.Prelude.{ℕ, List, [], ◌++◌, codes, slice_get}
 use Rattle.std.specs.Option.{option_map_or}
 use Rattle.std.specs.Fmt.{decimal}
@@ -11,7 +12,9 @@ use Rattle.exchange_model.specs.Cells.{Placed, placed_files}
 use Rattle.exchange_model.specs.Names.{name_of_block}
 use Rattle.job_types.specs.declared.chain.Held.{Held}
 use Rattle.job_types.specs.declared.fault.Fault.{Fault}
-use Rattle.job_types.specs.declared.fault.Fault.TheVariants.{Pointer, Range, Divide, NotOwn, NoForlopp, Chain, BadEnd, Depth, Sends, Budget}
+use Rattle.job_types.specs.declared.fault.Fault.TheVariants.{Pointer, Range, Divide, NotOwn}
+use Rattle.job_types.specs.declared.fault.Fault.TheVariants.{NoForlopp, Chain, BadEnd, Depth, Sends}
+use Rattle.job_types.specs.declared.fault.Fault.TheVariants.{Budget}
 
 -- the word of a fault
 abbrev pub fault_word : Fault → List ℕ
@@ -40,8 +43,10 @@ placed p = record { block = p.block; file = p.file.now; first = p.first }
 
 -- `BLOCK.FILE(r)`, record r of a file
 abbrev pub record_name : List Block → Placed → ℕ → List ℕ
-record_name blocks p r = name_of_block blocks p.block ++ codes "." ++ p.file.name ++ codes "(" ++ decimal r ++ codes ")"
+record_name blocks p r =
+    name_of_block blocks p.block ++ codes "." ++ p.file.name ++ codes "(" ++ decimal r ++ codes ")"
 
 -- the same of a record that is held
 abbrev pub name_of_held : List Block → Held → List ℕ
-name_of_held blocks h = option_map_or (λ p. record_name blocks p h.number) (slice_get (placed_files blocks) h.file) []
+name_of_held blocks h =
+    option_map_or (λ p. record_name blocks p h.number) (slice_get (placed_files blocks) h.file) []

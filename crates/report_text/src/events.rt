@@ -1,7 +1,8 @@
 // The lines of the events.
 ghost use Rattle.std.specs.Prelude.{◌≡◌, ◌++◌, IfOk, OnOk};
 ghost use Rattle.run_books.specs.Events.{event_of};
-ghost use Rattle.report_text.specs.Report.{event_line, event_lines, out_line, text_of, value_words, words_of_fault, written};
+ghost use Rattle.report_text.specs.Report.{event_line, event_lines, out_line, text_of, value_words};
+ghost use Rattle.report_text.specs.Report.{words_of_fault, written};
 
 use crate::names::{add_point, fault_word};
 use exchange_model::Exchange;
@@ -10,7 +11,8 @@ use run_books::{EventQueue, Faulty, ReportEvent};
 use std::alloc::Global;
 use text_parts::Text;
 
-/// The lines of these events, in order: the part of a report that tells of the events. Memory is the only reason for an error.
+/// The lines of these events, in order: the part of a report that tells of the events. Memory is
+/// the only reason for an error.
 pub fn event_lines(alloc: Global, exchange: &Exchange, events: EventQueue) -> Result<Text, Memory>
     ensures { IfOk result (λ text. text ≡ text_of (event_lines exchange.now events)) }
 {

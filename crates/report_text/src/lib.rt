@@ -1,8 +1,10 @@
 // The text of a report, and the summary of a load.
 //
-// What goes in: an exchange, the books and the stored words of a run, and how it ended; or events alone. What comes out: the
-// text of its report or its summary, or the lines of the events, byte for byte. Contracts see a definition over a state of the
-// single run. It knows no job and no machine, and changes nothing. The words of numbers, values, names and faults serve other texts too.
+// What goes in: an exchange, the books and the stored words of a run, and how it ended; or events
+// alone. What comes out: the text of its report or its summary, or the lines of the events, byte
+// for byte. Contracts see a definition over a state of the single run. It knows no job and no
+// machine, and changes nothing. The words of numbers, values, names and faults serve other texts
+// too.
 #![tactic(auto)]
 
 mod events;

@@ -11,9 +11,10 @@ use run_books::{Books, Ending, EventQueue, ReportEvent};
 use std::alloc::Global;
 use text_parts::Text;
 
-/// The summary of a run of a load of so many calls that has left these books, and that has ended so: how many jobs ended, how
-/// many signals left the exchange, how many forlopps were released, and how many lines were lost. Memory is the only reason
-/// for an error. The books give up their events.
+/// The summary of a run of a load of so many calls that has left these books, and that has ended
+/// so: how many jobs ended, how many signals left the exchange, how many forlopps were released,
+/// and how many lines were lost. Memory is the only reason for an error. The books give up their
+/// events.
 pub fn load_summary(
     alloc: Global,
     calls: u32,

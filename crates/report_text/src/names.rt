@@ -1,6 +1,7 @@
 // What has a number is told by its name.
 ghost use Rattle.std.specs.Prelude.{◌≡◌, ◌++◌, OnOk};
-ghost use Rattle.report_text.specs.Names.{fault_word, name_of_held, name_of_point, placed, record_name};
+ghost use Rattle.report_text.specs.Names.{fault_word, name_of_held, name_of_point, placed};
+ghost use Rattle.report_text.specs.Names.{record_name};
 
 use exchange_model::{Exchange, FilePlace};
 use job_types::{Fault, Held};

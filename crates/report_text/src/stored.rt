@@ -1,10 +1,13 @@
-// The lines of the stored words: variables, and fields that have another value than before the first job.
+// The lines of the stored words: variables, and fields that have another value than before the
+// first job.
 ghost use Rattle.std.specs.Prelude.{◌≡◌, ◌+◌, ◌*◌, ◌<◌, ◌^◌, ◌++◌, OnOk, flat_map, length, sum_by};
 ghost use Rattle.std.specs.List.{AllByRecursion};
 ghost use Rattle.exchange_model.specs.Cells.{file_cells, placed_in, record_cells};
 ghost use Rattle.exchange_model.specs.Kept.{FileFits};
 ghost use Rattle.report_text.specs.Names.{placed, record_name};
-ghost use Rattle.report_text.specs.Report.{block_lines, field_line, field_lines, file_lines, line_of_field, named_value, record_lines, text_of, variable_line, variable_lines, written};
+ghost use Rattle.report_text.specs.Report.{block_lines, field_line, field_lines, file_lines};
+ghost use Rattle.report_text.specs.Report.{line_of_field, named_value, record_lines, text_of};
+ghost use Rattle.report_text.specs.Report.{variable_line, variable_lines, written};
 
 use crate::names::add_record_name;
 use exchange_model::{Block, Exchange, File, FilePlace, Variable};

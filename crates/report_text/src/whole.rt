@@ -13,9 +13,9 @@ use run_books::{Books, Ending};
 use std::alloc::Global;
 use text_parts::Text;
 
-/// The text of the report of a run of this exchange that has left these books and these stored words, in the order of the
-/// cells, and that has ended so. The books give up their events, whose memory goes as they are written. Memory is the only
-/// reason for an error.
+/// The text of the report of a run of this exchange that has left these books and these stored
+/// words, in the order of the cells, and that has ended so. The books give up their events, whose
+/// memory goes as they are written. Memory is the only reason for an error.
 pub fn report(
     alloc: Global,
     exchange: &Exchange,

@@ -1,5 +1,6 @@
 -- A block: what it declares, what its names stand for, its survey and its body.
-use Rattle.std.specs.Prelude.{ℕ, ◌+◌, Bool, false, List, [], ◌∷◌, ◌++◌, map, filter_map, fold, length, Option, Some, None, if◌then◌else◌, nat_eq}
+use Rattle.std.specs.Prelude.{ℕ, ◌+◌, Bool, false, List, [], ◌∷◌, ◌++◌, map, filter_map, fold}
+use Rattle.std.specs.Prelude.{length, Option, Some, None, if◌then◌else◌, nat_eq}
 use Rattle.std.specs.List.{list_any}
 use Rattle.token_grammar.specs.declared.named.Named.{Named}
 use Rattle.token_grammar.specs.declared.named.Numbered.{Numbered}
@@ -38,7 +39,8 @@ init_of (Some n) = n.value
 
 -- `clear` says whether a restart gives it its INIT value again
 abbrev pub variable_of : Named → Numbered → Option Numbered → Bool → Variable
-variable_of n width init clear = record { name = n.name; width = byte_of width.value; init = init_of init; clear = clear }
+variable_of n width init clear =
+    record { name = n.name; width = byte_of width.value; init = init_of init; clear = clear }
 
 -- no restart gives a field its INIT value again
 abbrev pub field_of : Field → Variable
@@ -61,7 +63,13 @@ temporary_in d = kind_temporary d.kind
 -- a file, before those of the rest, which are numbered from the next number on
 abbrev pub kind_files : DeclKind → ℕ → (ℕ → List File) → List File
 kind_files (decl.File forlopp n size fields) number rest =
-    record { name = n.name; number = number; forlopp = forlopp; size = size.value; fields = map field_of fields } ∷ rest (number + 1)
+    record {
+      name = n.name;
+      number = number;
+      forlopp = forlopp;
+      size = size.value;
+      fields = map field_of fields;
+    } ∷ rest (number + 1)
 kind_files _ number rest = rest number
 
 unfoldable pub files_from : List Decl → ℕ → List File
@@ -104,8 +112,15 @@ labels_from (i ∷ rest) place = kind_labels i.kind place (labels_from rest)
 abbrev pub kind_made : Env → ℕ → ItemKind → Made (List MStmt) → Made (List MStmt)
 kind_made env line (item.Label n) rest point = rest point
 kind_made env line (item.Enter s ns) rest point =
-    let r = rest (point + 1) in
-    (record { point = point; line = line; kind = stmt.Enter (signal_of env s) (typed_temps env ns) } ∷ r.0, r.1)
+    let r = rest (point + 1) in (
+      record {
+        point = point;
+        line = line;
+        kind = stmt.Enter (signal_of env s) (typed_temps env ns);
+      }
+          ∷ r.0,
+      r.1,
+    )
 kind_made env line (item.Stmt s) rest point =
     let m = typed_stmt env s point in
     let r = rest m.1 in
@@ -144,7 +159,8 @@ typed_with env first b = record {
 
 -- what names stand for in a block, among these signals and the blocks of a text
 abbrev pub env_of : List SignalKind → List Block → First → Block → Env
-env_of signals blocks first b = record { name = meanings_of first.file (block_events b); signals = signals; blocks = blocks }
+env_of signals blocks first b =
+    record { name = meanings_of first.file (block_events b); signals = signals; blocks = blocks }
 
 unfoldable pub typed_of : List SignalKind → List Block → First → Block → Typed
 typed_of signals blocks first b = typed_with (env_of signals blocks first b) first b

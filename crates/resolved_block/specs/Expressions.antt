@@ -3,7 +3,9 @@ use Rattle.std.specs.Prelude.{ℕ, Bool, true, false, List, [], ◌∷◌, map, 
 use Rattle.token_grammar.specs.declared.named.Named.{Named}
 use Rattle.plex_ast.specs.declared.expr.Expr.{Expr, fold-Expr}
 use Rattle.plex_ast.specs.declared.expr.Added.{Added, fold-Added}
-use Rattle.plex_ast.specs.declared.expr.Added.TheOpen.{Added-F, FactorKind-F, Multiplied-F, Expr-F, Factor-F, Term-F, Plus, Minus, Times, Over, Mod, Number, Name, Field, Bracket, Reference}
+use Rattle.plex_ast.specs.declared.expr.Added.TheOpen.{Added-F, FactorKind-F, Multiplied-F, Expr-F}
+use Rattle.plex_ast.specs.declared.expr.Added.TheOpen.{Factor-F, Term-F, Plus, Minus, Times, Over}
+use Rattle.plex_ast.specs.declared.expr.Added.TheOpen.{Mod, Number, Name, Field, Bracket, Reference}
 use Rattle.plex_ast.specs.declared.expr.Term.{Term, fold-Term}
 use Rattle.plex_ast.specs.declared.expr.Multiplied.{Multiplied, fold-Multiplied}
 use Rattle.plex_ast.specs.declared.expr.Factor.{Factor, fold-Factor}
@@ -41,16 +43,19 @@ abbrev pub sum_of : List MTerm → MExpr
 sum_of terms = roll-Expr (record { terms = terms })
 
 abbrev pub field_of : Env → Named → Named → MFactor
-field_of env n pointer = factor.Field (field_file env n) (field_place env n) (temporary_of env pointer)
+field_of env n pointer =
+    factor.Field (field_file env n) (field_place env n) (temporary_of env pointer)
 
-abbrev pub factor_kind_layer : Env → FactorKind-F MTerm MFactor MJoined MExpr MFactor (List MJoined) → MFactor
+abbrev pub factor_kind_layer : Env → FactorKind-F MTerm MFactor MJoined MExpr MFactor (List MJoined)
+    → MFactor
 factor_kind_layer env (Number n) = factor.Number n.value
 factor_kind_layer env (Name n) = value_in (env.name n.name)
 factor_kind_layer env (Field n pointer) = field_of env n pointer
 factor_kind_layer env (Bracket e) = factor.Bracket e
 factor_kind_layer env (Reference n) = factor.Reference (block_of env n)
 
-abbrev pub multiplied_layer : Multiplied-F MTerm MFactor MJoined MExpr MFactor (List MJoined) → MJoined
+abbrev pub multiplied_layer : Multiplied-F MTerm MFactor MJoined MExpr MFactor (List MJoined)
+    → MJoined
 multiplied_layer (Times f) = joined op.Times f
 multiplied_layer (Over f) = joined op.Divide f
 multiplied_layer (Mod f) = joined op.Modulo f
@@ -69,22 +74,28 @@ abbrev pub term_layer : Term-F MTerm MFactor MJoined MExpr MFactor (List MJoined
 term_layer t = joined op.Times t.first ∷ t.rest
 
 unfoldable pub typed_added : Env → Added → MTerm
-typed_added env = fold-Added MTerm MFactor MJoined MExpr MFactor (List MJoined) added_layer (factor_kind_layer env) multiplied_layer expr_layer factor_layer term_layer
+typed_added env = fold-Added MTerm MFactor MJoined MExpr MFactor (List MJoined) added_layer
+    (factor_kind_layer env) multiplied_layer expr_layer factor_layer term_layer
 
 unfoldable pub typed_factor_kind : Env → FactorKind → MFactor
-typed_factor_kind env = fold-FactorKind MTerm MFactor MJoined MExpr MFactor (List MJoined) added_layer (factor_kind_layer env) multiplied_layer expr_layer factor_layer term_layer
+typed_factor_kind env = fold-FactorKind MTerm MFactor MJoined MExpr MFactor (List MJoined)
+    added_layer (factor_kind_layer env) multiplied_layer expr_layer factor_layer term_layer
 
 unfoldable pub typed_multiplied : Env → Multiplied → MJoined
-typed_multiplied env = fold-Multiplied MTerm MFactor MJoined MExpr MFactor (List MJoined) added_layer (factor_kind_layer env) multiplied_layer expr_layer factor_layer term_layer
+typed_multiplied env = fold-Multiplied MTerm MFactor MJoined MExpr MFactor (List MJoined)
+    added_layer (factor_kind_layer env) multiplied_layer expr_layer factor_layer term_layer
 
 unfoldable pub typed_expr : Env → Expr → MExpr
-typed_expr env = fold-Expr MTerm MFactor MJoined MExpr MFactor (List MJoined) added_layer (factor_kind_layer env) multiplied_layer expr_layer factor_layer term_layer
+typed_expr env = fold-Expr MTerm MFactor MJoined MExpr MFactor (List MJoined) added_layer
+    (factor_kind_layer env) multiplied_layer expr_layer factor_layer term_layer
 
 unfoldable pub typed_factor : Env → Factor → MFactor
-typed_factor env = fold-Factor MTerm MFactor MJoined MExpr MFactor (List MJoined) added_layer (factor_kind_layer env) multiplied_layer expr_layer factor_layer term_layer
+typed_factor env = fold-Factor MTerm MFactor MJoined MExpr MFactor (List MJoined) added_layer
+    (factor_kind_layer env) multiplied_layer expr_layer factor_layer term_layer
 
 unfoldable pub typed_term : Env → Term → List MJoined
-typed_term env = fold-Term MTerm MFactor MJoined MExpr MFactor (List MJoined) added_layer (factor_kind_layer env) multiplied_layer expr_layer factor_layer term_layer
+typed_term env = fold-Term MTerm MFactor MJoined MExpr MFactor (List MJoined) added_layer
+    (factor_kind_layer env) multiplied_layer expr_layer factor_layer term_layer
 
 -- conditions
 
@@ -97,7 +108,11 @@ typed_rel rel.Above = made_rel.Above
 typed_rel rel.AtLeast = made_rel.AtLeast
 
 abbrev pub typed_relation : Env → Relation → MRelation
-typed_relation env r = record { left = typed_expr env r.left; rel = typed_rel r.rel.kind; right = typed_expr env r.right }
+typed_relation env r = record {
+  left = typed_expr env r.left;
+  rel = typed_rel r.rel.kind;
+  right = typed_expr env r.right;
+}
 
 abbrev pub typed_conj : Env → Conj → List MRelation
 typed_conj env c = typed_relation env c.first ∷ map (typed_relation env) c.rest

@@ -16,7 +16,8 @@ use Rattle.exchange_model.specs.declared.stmt.StmtKind.{StmtKind}
 use Rattle.exchange_model.specs.declared.stmt.StmtKind.TheVariants as stmt
 use Rattle.signal_types.specs.Found.{number_in, kind_in}
 use Rattle.text_events.specs.declared.role.Meaning.{Meaning}
-use Rattle.text_events.specs.declared.role.Meaning.TheVariants.{Variable, Temporary, File, Field, Label}
+use Rattle.text_events.specs.declared.role.Meaning.TheVariants.{Variable, Temporary, File, Field}
+use Rattle.text_events.specs.declared.role.Meaning.TheVariants.{Label}
 use Rattle.text_rules.specs.Links.{is_outside}
 use Rattle.text_rules.specs.Surveys.{block_named, first_receiver}
 use Rattle.resolved_block.specs.Names.{Env}

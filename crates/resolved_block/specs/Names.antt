@@ -5,7 +5,8 @@ use Rattle.plex_ast.specs.declared.block.Block.{Block}
 use Rattle.text_events.specs.Named.{naming_of}
 use Rattle.text_events.specs.Note.{Event}
 use Rattle.text_events.specs.declared.role.Meaning.{Meaning}
-use Rattle.text_events.specs.declared.role.Meaning.TheVariants.{Variable, Temporary, File, Field, Label}
+use Rattle.text_events.specs.declared.role.Meaning.TheVariants.{Variable, Temporary, File, Field}
+use Rattle.text_events.specs.declared.role.Meaning.TheVariants.{Label}
 
 abbrev pub Naming : Type 0 → Type 0
 Naming V = List ℕ → Option V
@@ -26,7 +27,8 @@ counted_on first (Some m) = Some (with_first first m)
 abbrev pub meanings_of : ℕ → List Event → Naming Meaning
 meanings_of first events n = counted_on first (naming_of events n)
 
--- what all names in a block stand for: those that it declares, those of signals, and those of the blocks of the text
+-- what all names in a block stand for: those that it declares, those of signals, and those of the
+-- blocks of the text
 pub record Env : Type 0 where
   pub name : Naming Meaning
   pub signals : List SignalKind

@@ -1,5 +1,5 @@
--- Statements with numbers for names, one line for each alternative of the grammar. Each is made from the number that it gets, and
--- leaves the number of the next one.
+-- Statements with numbers for names, one line for each alternative of the grammar. Each is made
+-- from the number that it gets, and leaves the number of the next one.
 use Rattle.std.specs.Prelude.{ℕ, ◌+◌, List, [], ◌∷◌, map, unwrap_or}
 use Rattle.plex_ast.specs.declared.stmt.Stmt.{Stmt, fold-Stmt}
 use Rattle.plex_ast.specs.declared.stmt.When.{When, fold-When}
@@ -11,8 +11,10 @@ use Rattle.exchange_model.specs.declared.stmt.When.{When as MWhen, roll-When}
 use Rattle.exchange_model.specs.declared.stmt.StmtKind.{StmtKind as MKind}
 use Rattle.exchange_model.specs.declared.stmt.StmtKind.TheVariants as stmt
 use Rattle.resolved_block.specs.Names.{Env}
-use Rattle.resolved_block.specs.Meant.{temporary_of, file_of, field_file, field_place, label_of, signal_of, target_in, sent_to}
-use Rattle.resolved_block.specs.Expressions.{typed_expr, typed_cond, typed_rel, typed_values, typed_temps}
+use Rattle.resolved_block.specs.Meant.{temporary_of, file_of, field_file, field_place, label_of}
+use Rattle.resolved_block.specs.Meant.{signal_of, target_in, sent_to}
+use Rattle.resolved_block.specs.Expressions.{typed_expr, typed_cond, typed_rel, typed_values}
+use Rattle.resolved_block.specs.Expressions.{typed_temps}
 
 -- made from the number of the next statement, with the number after what is made
 abbrev pub Made : Type 0 → Type 0
@@ -26,7 +28,11 @@ in_turn (m ∷ ms) point = ((m point).0 ∷ (in_turn ms (m point).1).0, (in_turn
 -- what stands in a statement is numbered after it
 abbrev pub kind_layer : Env → StmtKind-F (Made MKind) (Made MStmt) (Made MWhen) → Made MKind
 kind_layer env (tree.Assign n e) point = (target_in (env.name n.name) (typed_expr env e), point)
-kind_layer env (tree.SetField n pointer e) point = (stmt.SetField (field_file env n) (field_place env n) (temporary_of env pointer) (typed_expr env e), point)
+kind_layer env (tree.SetField n pointer e) point = (
+  stmt.SetField (field_file env n)
+      (field_place env n) (temporary_of env pointer) (typed_expr env e),
+  point,
+)
 kind_layer env (tree.Goto l) point = (stmt.Goto (label_of env l), point)
 kind_layer env (tree.IfGoto c l) point = (stmt.IfGoto (typed_cond env c) (label_of env l), point)
 kind_layer env (tree.If c first other) point =
@@ -40,13 +46,21 @@ kind_layer env (tree.Case e whens other) point =
 kind_layer env (tree.On n from upto body) point =
     let a = in_turn body point in
     (stmt.On (temporary_of env n) (typed_expr env from) (typed_expr env upto) a.0, a.1)
-kind_layer env (tree.ForFirst n file field r e l) point =
-    (stmt.ForFirst (temporary_of env n) (file_of env file) (field_place env field) (typed_rel r.kind) (typed_expr env e) (label_of env l), point)
-kind_layer env (tree.Send s r es fresh) point = (stmt.Send (signal_of env s) (sent_to env s r) (typed_values env es) fresh, point)
-kind_layer env (tree.Retrieve s ns) point = (stmt.Retrieve (signal_of env s) (typed_temps env ns), point)
-kind_layer env (tree.Return s es) point = (stmt.Return (signal_of env s) (typed_values env es), point)
-kind_layer env (tree.Transfer s r) point = (stmt.Transfer (signal_of env s) (sent_to env s r), point)
-kind_layer env (tree.Seize n file l) point = (stmt.Seize (temporary_of env n) (file_of env file) (label_of env l), point)
+kind_layer env (tree.ForFirst n file field r e l) point = (
+  stmt.ForFirst (temporary_of env n) (file_of env file) (field_place env field)
+      (typed_rel r.kind) (typed_expr env e) (label_of env l),
+  point,
+)
+kind_layer env (tree.Send s r es fresh) point =
+    (stmt.Send (signal_of env s) (sent_to env s r) (typed_values env es) fresh, point)
+kind_layer env (tree.Retrieve s ns) point =
+    (stmt.Retrieve (signal_of env s) (typed_temps env ns), point)
+kind_layer env (tree.Return s es) point =
+    (stmt.Return (signal_of env s) (typed_values env es), point)
+kind_layer env (tree.Transfer s r) point =
+    (stmt.Transfer (signal_of env s) (sent_to env s r), point)
+kind_layer env (tree.Seize n file l) point =
+    (stmt.Seize (temporary_of env n) (file_of env file) (label_of env l), point)
 kind_layer env (tree.Free n file) point = (stmt.Free (temporary_of env n) (file_of env file), point)
 kind_layer env tree.Exit point = (stmt.Exit, point)
 
@@ -61,13 +75,16 @@ when_layer w point =
     (roll-When (record { number = w.number.value; body = b.0 }), b.1)
 
 unfoldable pub typed_kind : Env → StmtKind → Made MKind
-typed_kind env = fold-StmtKind (Made MKind) (Made MStmt) (Made MWhen) (kind_layer env) stmt_layer when_layer
+typed_kind env = fold-StmtKind (Made MKind) (Made MStmt) (Made MWhen) (kind_layer env) stmt_layer
+    when_layer
 
 unfoldable pub typed_stmt : Env → Stmt → Made MStmt
-typed_stmt env = fold-Stmt (Made MKind) (Made MStmt) (Made MWhen) (kind_layer env) stmt_layer when_layer
+typed_stmt env = fold-Stmt (Made MKind) (Made MStmt) (Made MWhen) (kind_layer env) stmt_layer
+    when_layer
 
 unfoldable pub typed_when : Env → When → Made MWhen
-typed_when env = fold-When (Made MKind) (Made MStmt) (Made MWhen) (kind_layer env) stmt_layer when_layer
+typed_when env = fold-When (Made MKind) (Made MStmt) (Made MWhen) (kind_layer env) stmt_layer
+    when_layer
 
 -- the statements of a list
 abbrev pub typed_list : Env → List Stmt → Made (List MStmt)

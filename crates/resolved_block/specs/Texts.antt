@@ -1,5 +1,5 @@
--- The exchange that a text means. Statements and files count on from block to block; entries, points and cells are those that every
--- exchange has of its blocks.
+-- The exchange that a text means. Statements and files count on from block to block; entries,
+-- points and cells are those that every exchange has of its blocks.
 use Rattle.std.specs.Prelude.{ℕ, List, [], ◌∷◌, map}
 use Rattle.exchange_model.specs.declared.block.Block.{Block}
 use Rattle.exchange_model.specs.declared.signal.SignalKind.{SignalKind}
@@ -21,7 +21,8 @@ none_before = record { point = 0; file = 0 }
 unfoldable pub typed_from : List SignalKind → List TreeBlock → First → List TreeBlock → List Block
 typed_from signals blocks first [] = []
 typed_from signals blocks first (b ∷ rest) =
-    (typed_of signals blocks first b).block ∷ typed_from signals blocks (typed_of signals blocks first b).next rest
+    (typed_of signals blocks first b).block ∷ typed_from signals blocks
+    (typed_of signals blocks first b).next rest
 
 -- the blocks that a text means
 abbrev pub typed_blocks : Tree → List Block

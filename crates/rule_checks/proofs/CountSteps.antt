@@ -1,5 +1,6 @@
 -- What is counted of a statement: room made for it, and one more.
-use Rattle.std.proofs.Common.{◌≡◌, ℕ, zero, suc, ◌+◌, ◌<◌, ◌≤◌, inl, inr, List, [], ◌∷◌, ◌++◌, length, get_or, set, nat_eq, refl, sym, ◌∙◌, ap, arith}
+use Rattle.std.proofs.Common.{◌≡◌, ℕ, zero, suc, ◌+◌, ◌<◌, ◌≤◌, inl, inr, List, [], ◌∷◌, ◌++◌}
+use Rattle.std.proofs.Common.{length, get_or, set, nat_eq, refl, sym, ◌∙◌, ap, arith}
 use Rattle.std.specs.Prelude.{if◌then◌else◌}
 use Rattle.std.proofs.lemmas.Bool.{cases_eq, eq-eqb, ne_eqb}
 use Rattle.std.proofs.lemmas.List.{get_or_default, get_or_past, get_or-set_same, get_or-set_other}
@@ -29,7 +30,9 @@ counted_there xs i x n inside is e = e ∙ is ∙ get_or_default xs i x 0 inside
 pub counted_nowhere : (xs : List ℕ) (i : ℕ) → length xs ≤ i → 0 ≡ get_or xs i 0
 counted_nowhere xs i past = sym (get_or_past xs i 0 past)
 
-pub counted_more : (old xs new : List ℕ) (i x y : ℕ) → ((o : ℕ) → get_or xs o 0 ≡ get_or old o 0) → i < length xs → x ≡ get_or xs i x → y ≡ x + 1 → new ≡ set xs i y → (o : ℕ) → get_or new o 0 ≡ get_or old o 0 + (if nat_eq o i then 1 else 0)
+pub counted_more : (old xs new : List ℕ) (i x y : ℕ) → ((o : ℕ) → get_or xs o 0 ≡ get_or old o 0) → i < length xs
+    → x ≡ get_or xs i x → y ≡ x + 1 → new ≡ set xs i y → (o : ℕ)
+    → get_or new o 0 ≡ get_or old o 0 + (if nat_eq o i then 1 else 0)
 counted_more old xs new i x y same inside is more put o = elim (cases_eq o i) [
   | inl here ↦
       let one : 1 ≡ (if nat_eq o i then 1 else 0) = ap (λ b. if b then 1 else 0) (sym (eq-eqb o i here)) in

@@ -15,7 +15,8 @@ use Rattle.rule_checks.specs.declared.amounts.Counted.{Counted}
 use Rattle.rule_checks.specs.declared.links.Own.{Own}
 use Rattle.rule_checks.specs.declared.links.Links.{Links}
 use Rattle.rule_checks.specs.declared.links.Before.{Before}
-use Rattle.text_rules.specs.Surveys.{block_named, receiver_count, receives_at, receives, sends, enters, is_so}
+use Rattle.text_rules.specs.Surveys.{block_named, receiver_count, receives_at, receives, sends}
+use Rattle.text_rules.specs.Surveys.{enters, is_so}
 use Rattle.text_rules.specs.Signals as signals
 use Rattle.text_rules.specs.Blocks as blocks
 use Rattle.text_rules.specs.Links as links
@@ -26,7 +27,10 @@ IsTold told (fault.Rule rule line) = told ≡ Some (rule, line)
 IsTold told fault.Memory = Unit {0}
 
 abbrev pub names_in : Seen → signals.KnownNames
-names_in s = record { signal = λ n. contains bytes_eq s.signals.names n; block = λ n. contains bytes_eq s.blocks.names n }
+names_in s = record {
+  signal = λ n. contains bytes_eq s.signals.names n;
+  block = λ n. contains bytes_eq s.blocks.names n;
+}
 
 -- the tables of a block, and what stands around them
 
@@ -47,7 +51,13 @@ known_in t a = record {
 -- the tables of the links
 
 abbrev pub amounts_of : Counted → links.Amounts
-amounts_of c = record { signals = c.signals; blocks = c.blocks; entries = c.entries; statements = c.statements; cells = c.cells }
+amounts_of c = record {
+  signals = c.signals;
+  blocks = c.blocks;
+  entries = c.entries;
+  statements = c.statements;
+  cells = c.cells;
+}
 
 -- a block that a reference may stand for
 abbrev pub block_seen : Option (Bor TreeBlock) → Option TreeBlock

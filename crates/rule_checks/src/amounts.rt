@@ -4,7 +4,9 @@ ghost use Rattle.exchange_model.specs.declared.signal.SignalKind.{SignalKind as 
 ghost use Rattle.signal_types.specs.Found.{kind_in};
 ghost use Rattle.text_events.specs.Note.{begun};
 ghost use Rattle.text_events.specs.Seen.{note_of, head_seen};
-ghost use Rattle.text_rules.specs.Links.{is_buffered, signals_note, blocks_note, entries_head, statements_note, cells_note, adds, amounts_in, plus, goes_over, one_goes_over};
+ghost use Rattle.text_rules.specs.Links.{is_buffered, signals_note, blocks_note, entries_head};
+ghost use Rattle.text_rules.specs.Links.{statements_note, cells_note, adds, amounts_in, plus};
+ghost use Rattle.text_rules.specs.Links.{goes_over, one_goes_over};
 ghost use Rattle.rule_checks.specs.Tables.{amounts_of};
 
 use exchange_model::SignalKind;

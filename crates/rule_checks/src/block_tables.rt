@@ -45,7 +45,8 @@ impl Declared {
 
     #[tactic(auto, using(text_rules::proofs::BlockSteps::see_declared))]
     pub(crate) fn see(&mut self, kind: EventKind<'_>) -> Result<(), Memory>
-        ensures { OnOk result ((n : List ℕ) → get bytes_eq self.new.names n ≡ or_else (meaning_of_note n (note_of kind.entry)) (get bytes_eq self.old.names n)) }
+        ensures { OnOk result ((n : List ℕ) → get bytes_eq self.new.names n
+            ≡ or_else (meaning_of_note n (note_of kind.entry)) (get bytes_eq self.old.names n)) }
     {
         if let EventKind::Declares { name, meaning } = kind {
             let kept = name.again(*self.names.allocator())?;
@@ -99,7 +100,8 @@ impl Chosen {
     }
 
     pub(crate) fn see(&mut self, kind: EventKind<'_>) -> Result<(), Memory>
-        ensures { OnOk result ((o n : ℕ) → has_choice self.new.numbers.keys o n ≡ (has_choice self.old.numbers.keys o n || chooses_note o n (note_of kind.entry))) }
+        ensures { OnOk result ((o n : ℕ) → has_choice self.new.numbers.keys o n
+            ≡ (has_choice self.old.numbers.keys o n || chooses_note o n (note_of kind.entry))) }
     {
         if let EventKind::Chooses { owner, number } = kind {
             match self.numbers.insert((owner, number)) {
@@ -112,7 +114,8 @@ impl Chosen {
 }
 
 fn see_label(names: &mut NameSet, kind: EventKind<'_>) -> Result<(), Memory>
-    ensures { OnOk result ((n : List ℕ) → contains bytes_eq names.new.names n ≡ (contains bytes_eq names.old.names n || labels_note n (note_of kind.entry))) }
+    ensures { OnOk result ((n : List ℕ) → contains bytes_eq names.new.names n
+        ≡ (contains bytes_eq names.old.names n || labels_note n (note_of kind.entry))) }
 {
     match kind {
         EventKind::Declares {
@@ -126,7 +129,8 @@ fn see_label(names: &mut NameSet, kind: EventKind<'_>) -> Result<(), Memory>
 /// The labels of a whole block.
 #[tactic(auto, using(text_rules::proofs::BlockSteps::labels_begin, text_rules::proofs::BlockSteps::labels_step, text_rules::proofs::BlockSteps::labels_end))]
 pub(crate) fn labels_of(alloc: Global, events: &[Event<'_>], seed: Seed) -> Result<NameSet, Memory>
-    ensures { IfOk result (λ l. (n : List ℕ) → contains bytes_eq l.names n ≡ any (labels n) events.now) }
+    ensures { IfOk result (λ l. (n : List ℕ) → contains bytes_eq l.names n
+        ≡ any (labels n) events.now) }
 {
     let mut labels = NameSet::new(alloc, seed);
     for event in events {

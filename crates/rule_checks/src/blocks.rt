@@ -1,12 +1,17 @@
 // The rules of a block.
-ghost use Rattle.std.specs.Prelude.{◌≡◌, ◌^◌, not, nat_lt, ℕ, List, Some, OnOk, MatchResult, Option, is_some};
+ghost use Rattle.std.specs.Prelude.{◌≡◌, ◌^◌, not, nat_lt, ℕ, List, Some, OnOk, MatchResult};
+ghost use Rattle.std.specs.Prelude.{Option, is_some};
 ghost use Rattle.std.specs.Str.{bytes_eq};
 ghost use Rattle.indexmap.specs.IndexSet.{contains};
 ghost use Rattle.first_fault.specs.First.{any, first_broken};
 ghost use Rattle.first_fault.specs.Told.{told};
 ghost use Rattle.signal_types.specs.Found.{number_in, kind_in};
 ghost use Rattle.text_events.specs.Seen.{note_of, head_seen};
-ghost use Rattle.text_rules.specs.Blocks.{labels, broken, all_rules, known_of, serves, is_plain_file, is_forlopp_file, is_field_of, stands, other_data, answer_of, is_other_kind, same_number, retrieves, asks, apart, wrong_count, wrong_fresh, KnowsNothing, Sees};
+ghost use Rattle.text_rules.specs.Blocks.{labels, broken, all_rules, known_of, serves};
+ghost use Rattle.text_rules.specs.Blocks.{is_plain_file, is_forlopp_file, is_field_of, stands};
+ghost use Rattle.text_rules.specs.Blocks.{other_data, answer_of, is_other_kind, same_number};
+ghost use Rattle.text_rules.specs.Blocks.{retrieves, asks, apart, wrong_count, wrong_fresh};
+ghost use Rattle.text_rules.specs.Blocks.{KnowsNothing, Sees};
 ghost use Rattle.rule_checks.specs.Tables.{known_in, AnAround, IsTold};
 ghost use Rattle.text_rules.specs.Texts.{line_of, blocks_told};
 
@@ -158,7 +163,8 @@ fn retrieves(signals: &SignalTable, answer: Option<u32>, head: Head<'_>) -> bool
 
 // Whether a statement sends the combined signal whose answer has this name.
 fn asks(signals: &SignalTable, answer: &KeptName, head: Head<'_>) -> bool
-    ensures { result ≡ asks (kind_in signals.now.kinds.now) (number_in signals.now.kinds.now answer.now) (head_seen head.entry) }
+    ensures { result ≡ asks (kind_in signals.now.kinds.now)
+        (number_in signals.now.kinds.now answer.now) (head_seen head.entry) }
 {
     match head {
         Head::Sends { signal, .. } => {
@@ -169,7 +175,8 @@ fn asks(signals: &SignalTable, answer: &KeptName, head: Head<'_>) -> bool
 }
 
 fn stands_apart(signals: &SignalTable, here: Head<'_>, before: Head<'_>, after: Head<'_>) -> bool
-    ensures { result ≡ apart (number_in signals.now.kinds.now) (kind_in signals.now.kinds.now) (head_seen here.entry) (head_seen before.entry) (head_seen after.entry) }
+    ensures { result ≡ apart (number_in signals.now.kinds.now) (kind_in signals.now.kinds.now)
+        (head_seen here.entry) (head_seen before.entry) (head_seen after.entry) }
 {
     match here {
         Head::Sends { signal, .. } => {
@@ -219,7 +226,8 @@ impl Tables {
 
     /// Takes in one event more.
     fn see(&mut self, kind: EventKind<'_>) -> Result<(), Memory>
-        ensures { OnOk result ((a : AnAround) → Sees (known_in self.old a) (note_of kind.entry) (known_in self.new a)) }
+        ensures { OnOk result ((a : AnAround) → Sees (known_in self.old a) (note_of kind.entry)
+            (known_in self.new a)) }
     {
         self.declared.see(kind)?;
         self.counts.see(kind)?;
@@ -324,7 +332,8 @@ impl Tables {
 impl Tables {
     /// The first rule that an event breaks.
     fn rule_at(&self, around: &Around<'_>, event: &Event<'_>) -> Option<BlockRule>
-        ensures { result ≡ first_broken (λ r k e. broken r k e.note) all_rules (known_in self.now around.now) event.now }
+        ensures { result ≡ first_broken (λ r k e. broken r k e.note) all_rules
+            (known_in self.now around.now) event.now }
     {
         let kind = event.kind();
         for rule in RULES {
@@ -362,8 +371,13 @@ fn check_block(
     around: &Around<'_>,
     events: &[Event<'_>],
 ) -> Result<(), Fault<BlockRule>>
-    requires { (n : List ℕ) → contains bytes_eq around.now.labels.names n ≡ any (labels n) events.now }
-    ensures { MatchResult result (λ _. told (λ r k e. broken r k e.note) all_rules line_of (known_of around.now.signals.now.kinds.now around.now.blocks.now.blocks.now events.now) events.now ≡ Option.None) (IsTold (told (λ r k e. broken r k e.note) all_rules line_of (known_of around.now.signals.now.kinds.now around.now.blocks.now.blocks.now events.now) events.now)) }
+    requires { (n : List ℕ) → contains bytes_eq around.now.labels.names n
+        ≡ any (labels n) events.now }
+    ensures { MatchResult result (λ _. told (λ r k e. broken r k e.note) all_rules line_of
+        (known_of around.now.signals.now.kinds.now around.now.blocks.now.blocks.now events.now)
+        events.now ≡ Option.None) (IsTold (told (λ r k e. broken r k e.note) all_rules line_of
+        (known_of around.now.signals.now.kinds.now around.now.blocks.now.blocks.now events.now)
+        events.now)) }
 {
     let mut tables = Tables::new(alloc, around.signals.seed);
     for event in events {
@@ -385,7 +399,10 @@ fn check_part(
     blocks: &BlockTable<'_>,
     events: &[Event<'_>],
 ) -> Result<(), Fault<BlockRule>>
-    ensures { MatchResult result (λ _. told (λ r k e. broken r k e.note) all_rules line_of (known_of signals.now.kinds.now blocks.now.blocks.now events.now) events.now ≡ Option.None) (IsTold (told (λ r k e. broken r k e.note) all_rules line_of (known_of signals.now.kinds.now blocks.now.blocks.now events.now) events.now)) }
+    ensures { MatchResult result (λ _. told (λ r k e. broken r k e.note) all_rules line_of
+        (known_of signals.now.kinds.now blocks.now.blocks.now events.now) events.now ≡ Option.None)
+        (IsTold (told (λ r k e. broken r k e.note) all_rules line_of
+        (known_of signals.now.kinds.now blocks.now.blocks.now events.now) events.now)) }
 {
     let labels = match labels_of(alloc, events, signals.seed) {
         Ok(labels) => labels,
@@ -399,15 +416,17 @@ fn check_part(
     check_block(alloc, &around, events)
 }
 
-/// Whether the parts of a text keep the rules of blocks, among these signals and blocks; else the first fault, and there the lowest
-/// rule. It refuses for memory only where memory is refused.
+/// Whether the parts of a text keep the rules of blocks, among these signals and blocks; else the
+/// first fault, and there the lowest rule. It refuses for memory only where memory is refused.
 pub fn check_blocks(
     alloc: Global,
     signals: &SignalTable<'_>,
     blocks: &BlockTable<'_>,
     parts: &[Seq<Event<'_>>],
 ) -> Result<(), Fault<BlockRule>>
-    ensures { MatchResult result (λ _. blocks_told signals.now.kinds.now blocks.now.blocks.now parts.now ≡ Option.None) (IsTold (blocks_told signals.now.kinds.now blocks.now.blocks.now parts.now)) }
+    ensures { MatchResult result (λ _. blocks_told signals.now.kinds.now blocks.now.blocks.now
+        parts.now ≡ Option.None) (IsTold (blocks_told signals.now.kinds.now blocks.now.blocks.now
+        parts.now)) }
 {
     for part in parts {
         match check_part(alloc, signals, blocks, part.as_slice()) {

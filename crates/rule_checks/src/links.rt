@@ -1,13 +1,17 @@
 // The link rules and the limits.
-ghost use Rattle.std.specs.Prelude.{◌≡◌, ◌||◌, ◌<◌, ℕ, List, Option, OnOk, IfOk, MatchResult, false};
+ghost use Rattle.std.specs.Prelude.{◌≡◌, ◌||◌, ◌<◌, ℕ, List, Option, OnOk, IfOk, MatchResult};
+ghost use Rattle.std.specs.Prelude.{false};
 ghost use Rattle.std.specs.Str.{bytes_eq};
 ghost use Rattle.indexmap.specs.IndexSet.{contains};
 ghost use Rattle.first_fault.specs.First.{any, first_broken};
 ghost use Rattle.signal_types.specs.Found.{kind_in};
 ghost use Rattle.text_events.specs.Note.{begun, Open};
 ghost use Rattle.text_events.specs.Seen.{note_of, way_seen};
-ghost use Rattle.text_rules.specs.Surveys.{line_receives, line_sends, item_enters, receives, sends, enters};
-ghost use Rattle.text_rules.specs.Links.{block_of, broken, all_rules, is_outside, is_open, is_wrong_way, no_receiver, needs_reference, not_received, head_enters, adds, plus};
+ghost use Rattle.text_rules.specs.Surveys.{line_receives, line_sends, item_enters, receives, sends};
+ghost use Rattle.text_rules.specs.Surveys.{enters};
+ghost use Rattle.text_rules.specs.Links.{block_of, broken, all_rules, is_outside, is_open};
+ghost use Rattle.text_rules.specs.Links.{is_wrong_way, no_receiver, needs_reference, not_received};
+ghost use Rattle.text_rules.specs.Links.{head_enters, adds, plus};
 ghost use Rattle.rule_checks.specs.Tables.{amounts_of, links_in, block_seen, IsOwn, IsTold};
 ghost use Rattle.text_rules.specs.Texts.{links_told};
 
@@ -31,7 +35,8 @@ pub(crate) struct Own {
 }
 
 fn see_received(names: &mut NameSet, line: &Survey) -> Result<(), Memory>
-    ensures { OnOk result ((s : List ℕ) → contains bytes_eq names.new.names s ≡ (contains bytes_eq names.old.names s || line_receives s line.now)) }
+    ensures { OnOk result ((s : List ℕ) → contains bytes_eq names.new.names s
+        ≡ (contains bytes_eq names.old.names s || line_receives s line.now)) }
 {
     match &line.kind {
         SurveyKind::Receive { signal } => names.add(&signal.name),
@@ -40,7 +45,8 @@ fn see_received(names: &mut NameSet, line: &Survey) -> Result<(), Memory>
 }
 
 fn see_sent(names: &mut NameSet, line: &Survey) -> Result<(), Memory>
-    ensures { OnOk result ((s : List ℕ) → contains bytes_eq names.new.names s ≡ (contains bytes_eq names.old.names s || line_sends s line.now)) }
+    ensures { OnOk result ((s : List ℕ) → contains bytes_eq names.new.names s
+        ≡ (contains bytes_eq names.old.names s || line_sends s line.now)) }
 {
     match &line.kind {
         SurveyKind::Receive { .. } => Ok(()),
@@ -49,7 +55,8 @@ fn see_sent(names: &mut NameSet, line: &Survey) -> Result<(), Memory>
 }
 
 fn see_entered(names: &mut NameSet, item: &Item) -> Result<(), Memory>
-    ensures { OnOk result ((s : List ℕ) → contains bytes_eq names.new.names s ≡ (contains bytes_eq names.old.names s || item_enters s item.now)) }
+    ensures { OnOk result ((s : List ℕ) → contains bytes_eq names.new.names s
+        ≡ (contains bytes_eq names.old.names s || item_enters s item.now)) }
 {
     match &item.kind {
         ItemKind::Enter { signal, .. } => names.add(&signal.name),
@@ -59,7 +66,8 @@ fn see_entered(names: &mut NameSet, item: &Item) -> Result<(), Memory>
 
 #[tactic(auto, using(text_rules::proofs::LinkSteps::any_begin, text_rules::proofs::LinkSteps::any_step, text_rules::proofs::LinkSteps::any_end))]
 fn received_in(alloc: Global, lines: &[Survey], seed: Seed) -> Result<NameSet, Memory>
-    ensures { IfOk result (λ names. (s : List ℕ) → contains bytes_eq names.names s ≡ any (line_receives s) lines.now) }
+    ensures { IfOk result (λ names. (s : List ℕ)
+        → contains bytes_eq names.names s ≡ any (line_receives s) lines.now) }
 {
     let mut names = NameSet::new(alloc, seed);
     for line in lines {
@@ -70,7 +78,8 @@ fn received_in(alloc: Global, lines: &[Survey], seed: Seed) -> Result<NameSet, M
 
 #[tactic(auto, using(text_rules::proofs::LinkSteps::any_begin, text_rules::proofs::LinkSteps::any_step, text_rules::proofs::LinkSteps::any_end))]
 fn sent_in(alloc: Global, lines: &[Survey], seed: Seed) -> Result<NameSet, Memory>
-    ensures { IfOk result (λ names. (s : List ℕ) → contains bytes_eq names.names s ≡ any (line_sends s) lines.now) }
+    ensures { IfOk result (λ names. (s : List ℕ)
+        → contains bytes_eq names.names s ≡ any (line_sends s) lines.now) }
 {
     let mut names = NameSet::new(alloc, seed);
     for line in lines {
@@ -81,7 +90,8 @@ fn sent_in(alloc: Global, lines: &[Survey], seed: Seed) -> Result<NameSet, Memor
 
 #[tactic(auto, using(text_rules::proofs::LinkSteps::any_begin, text_rules::proofs::LinkSteps::any_step, text_rules::proofs::LinkSteps::any_end))]
 fn entered_in(alloc: Global, items: &[Item], seed: Seed) -> Result<NameSet, Memory>
-    ensures { IfOk result (λ names. (s : List ℕ) → contains bytes_eq names.names s ≡ any (item_enters s) items.now) }
+    ensures { IfOk result (λ names. (s : List ℕ)
+        → contains bytes_eq names.names s ≡ any (item_enters s) items.now) }
 {
     let mut names = NameSet::new(alloc, seed);
     for item in items {
@@ -110,7 +120,8 @@ impl Own {
     }
 }
 
-/// What stands around the tables of a part: the signals, the blocks of the text, and what the own block says of signals.
+/// What stands around the tables of a part: the signals, the blocks of the text, and what the own
+/// block says of signals.
 pub(crate) struct Links<'a> {
     pub(crate) signals: &'a SignalTable<'a>,
     pub(crate) blocks: &'a BlockTable<'a>,
@@ -162,13 +173,15 @@ impl Before {
     }
 
     fn needs_reference(&self, links: &Links<'_>, signal: &KeptName, way: Way<'_>) -> bool
-        ensures { result ≡ needs_reference (links_in self.now links.now) signal.now (way_seen way.entry) }
+        ensures { result ≡ needs_reference (links_in self.now links.now) signal.now
+            (way_seen way.entry) }
     {
         !links.is_outside(signal) && links.blocks.receiver_count(signal) > 1 && is_open(way)
     }
 
     fn is_wrong_way(&self, links: &Links<'_>, signal: &KeptName, way: Way<'_>) -> bool
-        ensures { result ≡ is_wrong_way (links_in self.now links.now) signal.now (way_seen way.entry) }
+        ensures { result ≡ is_wrong_way (links_in self.now links.now) signal.now
+            (way_seen way.entry) }
     {
         match way {
             Way::To(name) => match links.blocks.number(name) {
@@ -180,15 +193,21 @@ impl Before {
     }
 
     fn is_not_received(&self, links: &Links<'_>, signal: &KeptName, way: Way<'_>) -> bool
-        ensures { result ≡ not_received (links_in self.now links.now) signal.now (way_seen way.entry) }
+        ensures { result ≡ not_received (links_in self.now links.now) signal.now
+            (way_seen way.entry) }
     {
         !links.is_outside(signal) && self.is_wrong_way(links, signal, way)
     }
 
     /// Takes in one event more.
     fn see(&mut self, links: &Links<'_>, kind: EventKind<'_>) -> Result<(), Memory>
-        ensures entered { OnOk result ((s : List ℕ) → contains bytes_eq self.new.entered.names s ≡ (contains bytes_eq self.old.entered.names s || head_enters s (begun (note_of kind.entry)))) }
-        ensures counted { OnOk result (amounts_of self.new.counted ≡ plus (amounts_of self.old.counted) (adds (kind_in links.now.signals.now.kinds.now) (note_of kind.entry))) }
+        ensures entered { OnOk result ((s : List ℕ)
+            → contains bytes_eq self.new.entered.names s
+            ≡ (contains bytes_eq self.old.entered.names s
+            || head_enters s (begun (note_of kind.entry)))) }
+        ensures counted { OnOk result (amounts_of self.new.counted
+            ≡ plus (amounts_of self.old.counted)
+            (adds (kind_in links.now.signals.now.kinds.now) (note_of kind.entry))) }
     {
         self.counted = self.counted.plus(added_at(links.signals, kind))?;
         match kind.begun() {
@@ -236,7 +255,8 @@ impl Before {
 
     /// The first rule that an event breaks.
     fn rule_at(&self, links: &Links<'_>, event: &Event<'_>) -> Option<LinkRule>
-        ensures { result ≡ first_broken (λ r k e. broken r k e.note) all_rules (links_in self.now links.now) event.now }
+        ensures { result ≡ first_broken (λ r k e. broken r k e.note) all_rules
+            (links_in self.now links.now) event.now }
     {
         let kind = event.kind();
         for rule in RULES {
@@ -287,15 +307,18 @@ fn links_of<'a>(
     })
 }
 
-/// Whether the parts of a text keep the link rules and the limits, among these signals and blocks; else the first fault, and there the
-/// lowest rule. It refuses for memory only where memory is refused.
+/// Whether the parts of a text keep the link rules and the limits, among these signals and blocks;
+/// else the first fault, and there the lowest rule. It refuses for memory only where memory is
+/// refused.
 pub fn check_links<'a>(
     alloc: Global,
     signals: &'a SignalTable<'a>,
     blocks: &'a BlockTable<'a>,
     parts: &[Seq<Event<'_>>],
 ) -> Result<(), Fault<LinkRule>>
-    ensures { MatchResult result (λ _. links_told signals.now.kinds.now blocks.now.blocks.now parts.now ≡ Option.None) (IsTold (links_told signals.now.kinds.now blocks.now.blocks.now parts.now)) }
+    ensures { MatchResult result (λ _. links_told signals.now.kinds.now blocks.now.blocks.now
+        parts.now ≡ Option.None) (IsTold (links_told signals.now.kinds.now blocks.now.blocks.now
+        parts.now)) }
 {
     let mut counted = Counted::none();
     for part in 0..parts.len() {

@@ -35,7 +35,8 @@ impl NameSet {
 
     /// Takes in a name.
     pub(crate) fn add(&mut self, name: &KeptName) -> Result<(), Memory>
-        ensures { OnOk result ((n : List ℕ) → contains bytes_eq self.new.names n ≡ (contains bytes_eq self.old.names n || bytes_eq name.now n)) }
+        ensures { OnOk result ((n : List ℕ) → contains bytes_eq self.new.names n
+            ≡ (contains bytes_eq self.old.names n || bytes_eq name.now n)) }
     {
         let kept = name.again(*self.names.allocator())?;
         match self.names.insert(kept) {

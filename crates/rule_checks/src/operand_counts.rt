@@ -8,8 +8,8 @@ use plex_num::Memory;
 use std::alloc::Global;
 use text_events::EventKind;
 
-/// How many operands each statement has so far, by the number that names it: a byte for each number, since the 65th operand
-/// of a statement breaks a rule and is not counted.
+/// How many operands each statement has so far, by the number that names it: a byte for each
+/// number, since the 65th operand of a statement breaks a rule and is not counted.
 pub(crate) struct Operands {
     pub(crate) of: Vec<u8>,
 }

@@ -59,7 +59,8 @@ impl Seen {
 
     /// The first rule that an event breaks.
     fn rule_at(&self, event: &Event<'_>) -> Option<SignalRule>
-        ensures { result ≡ first_broken (λ r k e. broken r k e.note) all_rules (names_in self.now) event.now }
+        ensures { result ≡ first_broken (λ r k e. broken r k e.note) all_rules (names_in self.now)
+            event.now }
     {
         let kind = event.kind();
         if self.is_broken(SignalRule::Once, kind) {
@@ -72,14 +73,16 @@ impl Seen {
     }
 }
 
-/// Whether the parts of a text keep the rules of signals and of names of blocks; else the first fault, and there the lowest rule.
-/// It refuses for memory only where memory is refused. The seed hangs on the names of the text.
+/// Whether the parts of a text keep the rules of signals and of names of blocks; else the first
+/// fault, and there the lowest rule. It refuses for memory only where memory is refused. The seed
+/// hangs on the names of the text.
 pub fn check_signals(
     alloc: Global,
     parts: &[Seq<Event<'_>>],
     seed: Seed,
 ) -> Result<(), Fault<SignalRule>>
-    ensures { MatchResult result (λ _. signals_told parts.now ≡ Option.None) (IsTold (signals_told parts.now)) }
+    ensures { MatchResult result (λ _. signals_told parts.now ≡ Option.None)
+        (IsTold (signals_told parts.now)) }
 {
     let mut seen = Seen::new(alloc, seed);
     for part in parts {

@@ -34,10 +34,13 @@ pub raised_books : (p : BookParts) (n jobs : ℕ) (b : Account) → n ≡ jobs �
 raised_books p n jobs b same is = is ∙ ap (λ k. account_of (record p { limit = k })) same
 
 -- the run that goes on with what is carried over
-raised_state : (p : BookParts) (jobs : ℕ) (words : List ℕ) (run : Standing) → run.books ≡ account_of (record p { limit = jobs }) → run.words ≡ words → state_of run ≡ state_with p words
+raised_state : (p : BookParts) (jobs : ℕ) (words : List ℕ) (run : Standing)
+    → run.books ≡ account_of (record p { limit = jobs }) → run.words ≡ words → state_of run ≡ state_with p words
 raised_state p jobs words run is same = λ i. with_words (is i).state (same i)
 
-pub carries_on : (x y : Exchange) (before : State) (p : BookParts) (words : List ℕ) (jobs : ℕ) (run : Standing) → IsCarried x y before (state_with p words) → AreStanding y p words → run.books ≡ account_of (record p { limit = jobs }) → run.words ≡ words → CarriesOn x y before jobs run
+pub carries_on : (x y : Exchange) (before : State) (p : BookParts) (words : List ℕ) (jobs : ℕ) (run : Standing)
+    → IsCarried x y before (state_with p words) → AreStanding y p words
+    → run.books ≡ account_of (record p { limit = jobs }) → run.words ≡ words → CarriesOn x y before jobs run
 carries_on x y before p words jobs run carried stands is same =
     let state = raised_state p jobs words run is same in
     record {
@@ -51,5 +54,6 @@ pub carries_few : (x y : Exchange) (before : State) (jobs : ℕ) (run : Standing
 carries_few x y before jobs run c most = subst (λ k. k ≤ MOST_JOBS) (sym c.limited) most
 
 -- as many jobs have ended as before the change
-pub carried_few : (x y : Exchange) (p q : BookParts) (words carried : List ℕ) (jobs : ℕ) → IsCarried x y (state_with p words) (state_with q carried) → p.ended ≤ jobs → q.ended ≤ jobs
+pub carried_few : (x y : Exchange) (p q : BookParts) (words carried : List ℕ) (jobs : ℕ)
+    → IsCarried x y (state_with p words) (state_with q carried) → p.ended ≤ jobs → q.ended ≤ jobs
 carried_few x y p q words carried jobs is few = (let same : q.ended ≡ p.ended = ap (λ (t : State). t.ended) is.books in omega (arith, same, few))

@@ -14,8 +14,10 @@ use Rattle.block_change.specs.Carried.{IsCarried}
 abbrev pub IsRunOf : Exchange → List Line → ℕ → Ended → Type 0
 IsRunOf x lines jobs end = IsEndOf x (opening x (map coming_of lines)) jobs end
 
--- this state of the old exchange is carried over to the new one, where a run may go on with it to so many jobs
-pub record CarriesOn (old new : Exchange) (before : State) (jobs : ℕ) (run : Standing) : Type 0 where
+-- this state of the old exchange is carried over to the new one, where a run may go on with it to
+-- so many jobs
+pub record CarriesOn (old new : Exchange) (before : State) (jobs : ℕ) (run : Standing) : Type
+    0 where
   pub carried : IsCarried old new before (state_of run)
   pub limited : run.books.limit ≡ jobs
   pub may : MayGoOn new run

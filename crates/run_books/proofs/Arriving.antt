@@ -1,11 +1,15 @@
--- Lines arrive: the stored words are of no account there, and what is left to arrive leads to the same state.
-use Rattle.std.proofs.Common.{◌≡◌, ℕ, ◌<◌, Bool, true, false, List, [], ◌∷◌, ◌++◌, length, refl, sym, ap, ◌∙◌, subst, arith, if◌then◌else◌}
+-- Lines arrive: the stored words are of no account there, and what is left to arrive leads to the
+-- same state.
+use Rattle.std.proofs.Common.{◌≡◌, ℕ, ◌<◌, Bool, true, false, List, [], ◌∷◌, ◌++◌, length, refl}
+use Rattle.std.proofs.Common.{sym, ap, ◌∙◌, subst, arith, if◌then◌else◌}
 use Rattle.std.specs.Prelude.{unwrap_or}
 use Rattle.job_types.specs.Forlopps.{is_dead}
 use Rattle.exchange_model.specs.declared.exchange.Exchange.{Exchange}
-use Rattle.source_meaning.specs.Arrivals.{arrivals, arrivals_of, arrives, comes, forlopp_for, is_due, next_after}
+use Rattle.source_meaning.specs.Arrivals.{arrivals, arrivals_of, arrives, comes, forlopp_for}
+use Rattle.source_meaning.specs.Arrivals.{is_due, next_after}
 use Rattle.source_meaning.specs.State.{Bare, Coming, Fresh, Origin, Same, State, has_stopped}
-use Rattle.run_books.specs.Accounts.{Account, after_arrival, after_arrivals, is_next_due, line_arrives, with_words}
+use Rattle.run_books.specs.Accounts.{Account, after_arrival, after_arrivals, is_next_due}
+use Rattle.run_books.specs.Accounts.{line_arrives, with_words}
 
 -- ## The words are of no account
 
@@ -35,14 +39,19 @@ unfolding arrivals_of
 lines_with x [] s w = refl
 lines_with x (l ∷ rest) s w = by (is_due l s) (lines_with x rest (arrives x l rest s) w)
   where
-    by : (b : Bool) → arrivals_of x rest (with_words (arrives x l rest s) w) ≡ with_words (arrivals_of x rest (arrives x l rest s)) w → (if b then arrivals_of x rest (arrives x l rest (with_words s w)) else with_words s w) ≡ with_words (if b then arrivals_of x rest (arrives x l rest s) else s) w
+    by : (b : Bool) → arrivals_of x rest (with_words (arrives x l rest s) w)
+        ≡ with_words (arrivals_of x rest (arrives x l rest s)) w
+        → (if b then arrivals_of x rest (arrives x l rest (with_words s w)) else with_words s w)
+        ≡ with_words (if b then arrivals_of x rest (arrives x l rest s) else s) w
     by true more = ap (arrivals_of x rest) (arrives_with x l rest s w) ∙ more
     by false more = refl
 
 pub arrivals_with : (x : Exchange) (s : State) (w : List ℕ) → arrivals x (with_words s w) ≡ with_words (arrivals x s) w
 arrivals_with x s w = by (has_stopped s) (lines_with x s.lines s w)
   where
-    by : (b : Bool) → arrivals_of x s.lines (with_words s w) ≡ with_words (arrivals_of x s.lines s) w → (if b then with_words s w else arrivals_of x s.lines (with_words s w)) ≡ with_words (if b then s else arrivals_of x s.lines s) w
+    by : (b : Bool) → arrivals_of x s.lines (with_words s w) ≡ with_words (arrivals_of x s.lines s) w
+        → (if b then with_words s w else arrivals_of x s.lines (with_words s w))
+        ≡ with_words (if b then s else arrivals_of x s.lines s) w
     by true more = refl
     by false more = more
 
@@ -91,7 +100,8 @@ one_arrives x (l ∷ rest) s due =
     } in
     subst (Arrives x (l ∷ rest) s) (sym is) there
 
-pub arriving_more : (x : Exchange) (old b next : Account) → is_next_due b.state.lines b.state ≡ true → next ≡ after_arrival x b → Arriving x old b → Arriving x old next
+pub arriving_more : (x : Exchange) (old b next : Account) → is_next_due b.state.lines b.state ≡ true
+    → next ≡ after_arrival x b → Arriving x old b → Arriving x old next
 arriving_more x old b next due is g =
     let one = one_arrives x b.state.lines b.state due in
     let there : Arriving x old (after_arrival x b) = record {
@@ -105,7 +115,8 @@ arriving_more x old b next due is g =
     stopped : (s t : State) → t.restarts ≡ s.restarts → has_stopped t ≡ has_stopped s
     stopped s t same = ap (λ n. has_stopped (record s { restarts = n })) same
 
-pub arriving_fewer : (x : Exchange) (b next : Account) → is_next_due b.state.lines b.state ≡ true → next ≡ after_arrival x b → length next.state.lines < length b.state.lines
+pub arriving_fewer : (x : Exchange) (b next : Account) → is_next_due b.state.lines b.state ≡ true
+    → next ≡ after_arrival x b → length next.state.lines < length b.state.lines
 arriving_fewer x b next due is = subst (λ (a : Account). length a.state.lines < length b.state.lines) (sym is) (one_arrives x b.state.lines b.state due).fewer
 
 none_arrives : (x : Exchange) (ls : List Coming) (s : State) → is_next_due ls s ≡ false → arrivals_of x ls s ≡ s
@@ -117,7 +128,8 @@ nothing_comes : (x : Exchange) (ls : List Coming) (s : State) → is_next_due ls
 nothing_comes x [] s due = refl
 nothing_comes x (l ∷ rest) s due = rw due refl
 
-pub arriving_end : (x : Exchange) (old b next : Account) → is_next_due b.state.lines b.state ≡ false → next ≡ after_arrival x b → Arriving x old b → next ≡ after_arrivals x old
+pub arriving_end : (x : Exchange) (old b next : Account) → is_next_due b.state.lines b.state ≡ false
+    → next ≡ after_arrival x b → Arriving x old b → next ≡ after_arrivals x old
 arriving_end x old b next due is g =
     let same = nothing_comes x b.state.lines b.state due in
     let rest = sym (none_arrives x b.state.lines b.state due) ∙ g.rest in
@@ -125,4 +137,10 @@ arriving_end x old b next due is g =
     is ∙ here
 
 pub arriving_none : (x : Exchange) (b : Account) → has_stopped b.state ≡ true → b ≡ after_arrivals x b
-arriving_none x b stopped = λ i. record { state = sym (ap (λ t. if t then b.state else arrivals_of x b.state.lines b.state) stopped) i; running = b.running; limit = b.limit }
+arriving_none x b stopped = λ i. record {
+  state = sym
+      (ap (λ t. if t then b.state else arrivals_of x b.state.lines b.state) stopped) i;
+  running =
+      b.running;
+  limit = b.limit;
+}

@@ -16,5 +16,8 @@ pub may_none : (s : State) (f : ℕ) → f ≡ 0 → MayBe s f
 may_none s zero none = tt
 may_none s (suc n) none = absurd (omega (arith, none))
 
-pub nothing_stored : (x : Exchange) (start : JobStart) (done : JobDone) (s : State) (ws : List ℕ) (may : ℕ → Bool) → done.outcome ≡ Ended → MayStore may (retired_world x start done s ws).trace
-nothing_stored x start done s ws may is = subst (λ (o : Outcome). MayStore may (outcome_world x start.job.forlopp o (with_sends start done s) (untouched ws)).trace) (sym is) tt
+pub nothing_stored : (x : Exchange) (start : JobStart) (done : JobDone) (s : State) (ws : List ℕ) (may : ℕ → Bool)
+    → done.outcome ≡ Ended → MayStore may (retired_world x start done s ws).trace
+nothing_stored x start done s ws may is = subst
+    (λ (o : Outcome). MayStore may (outcome_world x start.job.forlopp o (with_sends start done s) (untouched ws)).trace)
+    (sym is) tt

@@ -1,5 +1,8 @@
 -- The lines of a signal file fit an exchange.
-use Rattle.std.proofs.Common.{◌≡◌, ℕ, zero, suc, ◌+◌, ◌-◌, ◌<◌, ◌≤◌, ◌^◌, ◌&&◌, ◌⊎◌, inl, inr, Bool, true, false, nat_eq, List, [], ◌∷◌, ◌++◌, length, map, get_or, position, slice_get, Option, Some, None, Ok, refl, sym, ap, subst, ◌∙◌, arith, length-append}
+use Rattle.std.proofs.Common.{◌≡◌, ℕ, zero, suc, ◌+◌, ◌-◌, ◌<◌, ◌≤◌, ◌^◌, ◌&&◌, ◌⊎◌, inl, inr, Bool}
+use Rattle.std.proofs.Common.{true, false, nat_eq, List, [], ◌∷◌, ◌++◌, length, map, get_or}
+use Rattle.std.proofs.Common.{position, slice_get, Option, Some, None, Ok, refl, sym, ap, subst}
+use Rattle.std.proofs.Common.{◌∙◌, arith, length-append}
 use Rattle.std.specs.Prelude.{◌==◌, if◌then◌else◌, nat_le, nat_lt, codes}
 use Rattle.std.specs.List.{AllByRecursion, cons_option, slice_split}
 use Rattle.std.specs.Option.{option_map_or}
@@ -16,7 +19,8 @@ use Rattle.plex_num.specs.Number.{below_2_32, digits_from, number_of}
 use Rattle.exchange_model.specs.declared.exchange.Exchange.{Exchange}
 use Rattle.exchange_model.specs.declared.entry.Entry.{Entry}
 use Rattle.exchange_model.specs.declared.signal.SignalKind.{SignalKind}
-use Rattle.exchange_model.specs.declared.signal.SignalKind.TheVariants.{Answer, Buffered, Combined, Direct, Outside}
+use Rattle.exchange_model.specs.declared.signal.SignalKind.TheVariants.{Answer, Buffered, Combined}
+use Rattle.exchange_model.specs.declared.signal.SignalKind.TheVariants.{Direct, Outside}
 use Rattle.exchange_model.specs.Index.{is_entry}
 use Rattle.exchange_model.specs.Kept.{signal_count}
 use Rattle.signal_file.specs.declared.before.Before.{Before}
@@ -24,15 +28,19 @@ use Rattle.signal_file.specs.declared.directory.Signal.{Signal}
 use Rattle.signal_file.specs.declared.line.Line.{Line}
 use Rattle.signal_file.specs.declared.line.LineKind.{LineKind}
 use Rattle.signal_file.specs.declared.line.LineKind.TheVariants.{Bare, Fresh, Same}
-use Rattle.signal_file.specs.Form.{Closing, Saying, closing, end_or_value, ending, one_more, said_in, with}
+use Rattle.signal_file.specs.Form.{Closing, Saying, closing, end_or_value, ending, one_more}
+use Rattle.signal_file.specs.Form.{said_in, with}
 use Rattle.text_lines.specs.Words.{is_skipped, words}
 use Rattle.signal_file.specs.Lines.{lines_behind, signal_lines}
-use Rattle.signal_file.specs.Rules.{added, and_then, before_of, count_or, entry_of, gives, gives_forlopp, has_origin, if_buffered, is_origin, is_true, last_count, next_number, says, signal_of}
+use Rattle.signal_file.specs.Rules.{added, and_then, before_of, count_or, entry_of, gives}
+use Rattle.signal_file.specs.Rules.{gives_forlopp, has_origin, if_buffered, is_origin, is_true}
+use Rattle.signal_file.specs.Rules.{last_count, next_number, says, signal_of}
 use Rattle.exchange_model.specs.Names.{names_of_blocks, names_of_signals}
 use Rattle.signal_file.proofs.Behind.{ok_first}
 use Rattle.signal_file.proofs.Meant.{Adds, IsMeant, adds}
 use Rattle.source_meaning.specs.State.{Coming}
-use Rattle.source_meaning.specs.Valid.{HasOrigin, IsWord, LineFits, LinesFit, NamesEarlier, entry_count}
+use Rattle.source_meaning.specs.Valid.{HasOrigin, IsWord, LineFits, LinesFit, NamesEarlier}
+use Rattle.source_meaning.specs.Valid.{entry_count}
 use Rattle.run_books.specs.Lines.{coming_of, origin_of}
 
 -- ---- values are words
@@ -53,19 +61,26 @@ number_word : (text : List ℕ) (n : ℕ) → number_of text ≡ Some n → IsWo
 unfolding number_of
 number_word text n e = tested (nat_lt 0 (length text) && nat_le (length text) 10) (digits_from 0 text) n e
 
-value_more : (o : Option LineKind) (v : Option ℕ) (r : Option Closing) (c : Closing) → ((n : ℕ) → v ≡ Some n → IsWord n) → ((t : Closing) → r ≡ Some t → AllByRecursion IsWord t.values) → end_or_value o v r ≡ Some c → AllByRecursion IsWord c.values
-value_more (Some kind) v r c here later e = let same : record { values = []; kind = kind } ≡ c = same_Some _ c e in subst (λ (q : Closing). AllByRecursion IsWord q.values) same tt
+value_more : (o : Option LineKind) (v : Option ℕ) (r : Option Closing) (c : Closing) → ((n : ℕ) → v ≡ Some n → IsWord n)
+    → ((t : Closing) → r ≡ Some t → AllByRecursion IsWord t.values) → end_or_value o v r ≡ Some c
+    → AllByRecursion IsWord c.values
+value_more (Some kind) v r c here later e = let same : record { values = []; kind = kind }
+    ≡ c = same_Some _ c e in subst (λ (q : Closing). AllByRecursion IsWord q.values) same tt
 value_more None None r c here later e = absurd (cc)
 value_more None (Some v) None c here later e = absurd (cc)
-value_more None (Some v) (Some t) c here later e = subst (λ (q : Closing). AllByRecursion IsWord q.values) (same_Some (one_more v t) c e) (here v refl, later t refl)
+value_more None (Some v) (Some t) c here later e = subst (λ (q : Closing). AllByRecursion IsWord q.values)
+    (same_Some (one_more v t) c e) (here v refl, later t refl)
 
 pub closing_words : (ws : List (List ℕ)) (c : Closing) → closing ws ≡ Some c → AllByRecursion IsWord c.values
 unfolding closing
 closing_words [] c e = absurd (cc)
 closing_words (w ∷ rest) c e = value_more (ending (w ∷ rest)) (number_of w) (closing rest) c (λ n is. number_word w n is) (λ t is. closing_words rest t is) e
 
-said_values : (b : Bool) (o : Option ℕ) (signal block : List ℕ) (r : Option Closing) (s : Saying) → ((t : Closing) → r ≡ Some t → AllByRecursion IsWord t.values)
-    → (if b then with o (λ n. with r (λ t. Some (record { after = n; signal = signal; block = block; values = t.values; kind = t.kind }))) else None) ≡ Some s → AllByRecursion IsWord s.values
+said_values : (b : Bool) (o : Option ℕ) (signal block : List ℕ) (r : Option Closing) (s : Saying)
+    → ((t : Closing) → r ≡ Some t → AllByRecursion IsWord t.values)
+    → (if b then with o (λ n. with r (λ t. Some
+    (record { after = n; signal = signal; block = block; values = t.values; kind = t.kind }))) else None) ≡ Some s
+    → AllByRecursion IsWord s.values
 said_values false o signal block r s all e = absurd (cc)
 said_values true None signal block r s all e = absurd (cc)
 said_values true (Some n) signal block None s all e = absurd (cc)
@@ -77,7 +92,8 @@ said_words [] s e = absurd (cc)
 said_words (a ∷ []) s e = absurd (cc)
 said_words (a ∷ b ∷ []) s e = absurd (cc)
 said_words (a ∷ b ∷ c ∷ []) s e = absurd (cc)
-said_words (first ∷ count ∷ signal ∷ block ∷ rest) s e = said_values (bytes_eq first (codes "AFTER")) (number_of count) signal block (closing rest) s (λ t is. closing_words rest t is) e
+said_words (first ∷ count ∷ signal ∷ block ∷ rest) s e = said_values (bytes_eq first (codes "AFTER")) (number_of count)
+    signal block (closing rest) s (λ t is. closing_words rest t is) e
 
 unskipped_words : (b : Bool) (ws : List (List ℕ)) (s : Saying) → (if b then None else said_in ws) ≡ Some s → AllByRecursion IsWord s.values
 unskipped_words true ws s e = absurd (cc)
@@ -97,21 +113,25 @@ pub went : {A B : Type 0} (o : Option A) (go : A → Option B) (b : B) → with 
 went None go b is = absurd (cc)
 went (Some a) go b is = (a, is)
 
-buffered : (number : ℕ) (o : Option SignalKind) (signal : Signal) → if_buffered number o ≡ Some signal → (number ≡ signal.number) × (option_map_or signal_count o 0 ≡ signal.count)
+buffered : (number : ℕ) (o : Option SignalKind) (signal : Signal) → if_buffered number o ≡ Some signal
+    → (number ≡ signal.number) × (option_map_or signal_count o 0 ≡ signal.count)
 buffered number None signal e = absurd (cc)
-buffered number (Some (Buffered name level count)) signal e = let same : record { number = number; count = count } ≡ signal = same_Some _ signal e in (ap (λ (q : Signal). q.number) same, ap (λ (q : Signal). q.count) same)
+buffered number (Some (Buffered name level count)) signal e = let same : record { number = number; count = count }
+    ≡ signal = same_Some _ signal e in (ap (λ (q : Signal). q.number) same, ap (λ (q : Signal). q.count) same)
 buffered number (Some (Direct name count)) signal e = absurd (cc)
 buffered number (Some (Combined name count answer)) signal e = absurd (cc)
 buffered number (Some (Answer name count combined)) signal e = absurd (cc)
 buffered number (Some (Outside name count)) signal e = absurd (cc)
 
-signal_counted : (x : Exchange) (name : List ℕ) (signal : Signal) → signal_of x name ≡ Some signal → option_map_or signal_count (slice_get x.signals signal.number) 0 ≡ signal.count
+signal_counted : (x : Exchange) (name : List ℕ) (signal : Signal) → signal_of x name ≡ Some signal
+    → option_map_or signal_count (slice_get x.signals signal.number) 0 ≡ signal.count
 signal_counted x name signal is =
     let at = went (position (bytes_eq name) (names_of_signals x.signals)) (λ number. if_buffered number (slice_get x.signals number)) signal is in
     let here = buffered at.0 (slice_get x.signals at.0) signal at.1 in
     ap (λ n. option_map_or signal_count (slice_get x.signals n) 0) (sym here.0) ∙ here.1
 
-pub entry_there : (x : Exchange) (signal : Signal) (name block : List ℕ) (entry : ℕ) → signal_of x name ≡ Some signal → entry_of x signal.number block ≡ Some entry → (entry < length x.entries) × (entry_count x entry ≡ signal.count)
+pub entry_there : (x : Exchange) (signal : Signal) (name block : List ℕ) (entry : ℕ) → signal_of x name ≡ Some signal
+    → entry_of x signal.number block ≡ Some entry → (entry < length x.entries) × (entry_count x entry ≡ signal.count)
 entry_there x signal name block entry is at =
     let in_block = went (position (bytes_eq block) (names_of_blocks x.blocks)) (λ b. position (is_entry b signal.number) x.entries) entry at in
     let there = found (is_entry in_block.0 signal.number) x.entries entry in_block.1 in
@@ -186,10 +206,15 @@ giver_more done more number g = (g.0, g.1, got_more done more g.0 g.1 g.2, g.3, 
 tells_begin : Tells [] []
 tells_begin = record { numbers = tt; counts = tt; origins = λ i is. absurd (none-some true is) }
 
-origin_more : (before : List (List ℕ)) (line : List ℕ) (i : ℕ) → slice_get (map is_origin (before ++ line ∷ [])) i ≡ Some true → (slice_get (map is_origin before) i ≡ Some true) ⊎ ((i ≡ length before) × (is_origin line ≡ true))
-origin_more before line i is = counted (before_or_last (map is_origin before) (is_origin line) i (sym (ap (λ bs. slice_get bs i) (map-append is_origin before (line ∷ []))) ∙ is))
+origin_more : (before : List (List ℕ)) (line : List ℕ) (i : ℕ)
+    → slice_get (map is_origin (before ++ line ∷ [])) i ≡ Some true
+    → (slice_get (map is_origin before) i ≡ Some true) ⊎ ((i ≡ length before) × (is_origin line ≡ true))
+origin_more before line i is = counted (before_or_last (map is_origin before) (is_origin line) i
+    (sym (ap (λ bs. slice_get bs i) (map-append is_origin before (line ∷ []))) ∙ is))
   where
-    counted : (slice_get (map is_origin before) i ≡ Some true) ⊎ ((i ≡ length (map is_origin before)) × (is_origin line ≡ true)) → (slice_get (map is_origin before) i ≡ Some true) ⊎ ((i ≡ length before) × (is_origin line ≡ true))
+    counted : (slice_get (map is_origin before) i ≡ Some true)
+        ⊎ ((i ≡ length (map is_origin before)) × (is_origin line ≡ true))
+        → (slice_get (map is_origin before) i ≡ Some true) ⊎ ((i ≡ length before) × (is_origin line ≡ true))
     counted (inl there) = inl there
     counted (inr last) = inr (last.0 ∙ length-map before is_origin, last.1)
 
@@ -198,8 +223,10 @@ tells_skip before line done none t =
     let longer : length (before ++ line ∷ []) ≡ length before + 1 = length-append before (line ∷ []) in
     let same : last_count (before ++ line ∷ []) ≡ last_count before = counts_more before line ∙ ap (count_or (last_count before)) none in
     record {
-      numbers = all_weaker (λ (l : Line). l.number ≤ length before) (λ (l : Line). l.number ≤ length (before ++ line ∷ [])) done (λ l le. omega (arith, le, longer)) t.numbers;
-      counts = all_weaker (λ (l : Line). l.after ≤ last_count before) (λ (l : Line). l.after ≤ last_count (before ++ line ∷ [])) done (λ l le. omega (arith, le, same)) t.counts;
+      numbers = all_weaker (λ (l : Line). l.number ≤ length before)
+          (λ (l : Line). l.number ≤ length (before ++ line ∷ [])) done (λ l le. omega (arith, le, longer)) t.numbers;
+      counts = all_weaker (λ (l : Line). l.after ≤ last_count before)
+          (λ (l : Line). l.after ≤ last_count (before ++ line ∷ [])) done (λ l le. omega (arith, le, same)) t.counts;
       origins = λ i is. still i (origin_more before line i is);
     }
   where
@@ -207,17 +234,21 @@ tells_skip before line done none t =
     still i (inl there) = t.origins i there
     still i (inr last) = let no : gives_forlopp None ≡ true = ap gives_forlopp (sym none) ∙ last.1 in absurd (cc)
 
-tells_more : (before : List (List ℕ)) (line : List ℕ) (done : List Line) (s : Saying) (l : Line) → says line ≡ Some s → l.number ≡ length before + 1 → l.after ≡ s.after → l.kind ≡ s.kind → last_count before ≤ s.after
+tells_more : (before : List (List ℕ)) (line : List ℕ) (done : List Line) (s : Saying) (l : Line) → says line ≡ Some s
+    → l.number ≡ length before + 1 → l.after ≡ s.after → l.kind ≡ s.kind → last_count before ≤ s.after
     → Tells before done → Tells (before ++ line ∷ []) (done ++ l ∷ [])
 tells_more before line done s l is number after kind up t =
     let longer : length (before ++ line ∷ []) ≡ length before + 1 = length-append before (line ∷ []) in
     let counted : last_count (before ++ line ∷ []) ≡ s.after = counts_more before line ∙ ap (count_or (last_count before)) is in
     record {
       numbers = all_append (λ (k : Line). k.number ≤ length (before ++ line ∷ [])) done (l ∷ [])
-          (all_weaker (λ (k : Line). k.number ≤ length before) (λ (k : Line). k.number ≤ length (before ++ line ∷ [])) done (λ k le. omega (arith, le, longer)) t.numbers)
+          (all_weaker (λ (k : Line). k.number ≤ length before) (λ (k : Line). k.number ≤ length (before ++ line ∷ []))
+          done (λ k le. omega (arith, le, longer)) t.numbers)
           (omega (arith, number, longer), tt);
       counts = all_append (λ (k : Line). k.after ≤ last_count (before ++ line ∷ [])) done (l ∷ [])
-          (all_weaker (λ (k : Line). k.after ≤ last_count before) (λ (k : Line). k.after ≤ last_count (before ++ line ∷ [])) done (λ k le. omega (arith, le, up, counted)) t.counts)
+          (all_weaker (λ (k : Line). k.after ≤ last_count before)
+          (λ (k : Line). k.after ≤ last_count (before ++ line ∷ [])) done (λ k le. omega (arith, le, up, counted))
+          t.counts)
           (omega (arith, after, counted), tt);
       origins = λ i was. still i (origin_more before line i was);
     }
@@ -247,30 +278,40 @@ true_some None is = absurd (cc)
 true_some (Some b) is = ap Some is
 
 -- the line after AS is one before
-named : (t : Bool) (line : ℕ) (bs : List Bool) → nat_eq line 0 ≡ t → (if t then false else is_true (slice_get bs (line - 1))) ≡ true → (i : ℕ) × (line ≡ i + 1) × (slice_get bs i ≡ Some true)
+named : (t : Bool) (line : ℕ) (bs : List Bool) → nat_eq line 0 ≡ t
+    → (if t then false else is_true (slice_get bs (line - 1))) ≡ true
+    → (i : ℕ) × (line ≡ i + 1) × (slice_get bs i ≡ Some true)
 named true line bs e is = absurd (cc)
 named false zero bs e is = absurd (cc)
 named false (suc i) bs e is =
     let less : suc i - 1 ≡ i = omega arith in
     (i, omega arith, true_some (slice_get bs i) (ap (λ n. is_true (slice_get bs n)) (sym less) ∙ is))
 
-names_earlier : (before : List (List ℕ)) (done : List Line) (kind : LineKind) → Tells before done → has_origin (before_of before) kind ≡ true → NamesEarlier (map coming_of done) (origin_of kind)
+names_earlier : (before : List (List ℕ)) (done : List Line) (kind : LineKind) → Tells before done
+    → has_origin (before_of before) kind ≡ true → NamesEarlier (map coming_of done) (origin_of kind)
 names_earlier before done Fresh t is = tt
 names_earlier before done Bare t is = tt
 names_earlier before done (Same line) t is =
-    let own : has_origin (record { last = last_count before; origins = map is_origin before }) (Same line) ≡ true = ap (λ (b : Before). has_origin b (Same line)) (sym (before_is before)) ∙ is in
+    let own : has_origin (record { last = last_count before; origins = map is_origin before }) (Same line)
+    ≡ true = ap (λ (b : Before). has_origin b (Same line)) (sym (before_is before)) ∙ is in
     let at = named (nat_eq line 0) line (map is_origin before) refl own in
     let giver = t.origins at.0 at.2 in
     (coming_of giver.1, (giver.0, got_coming done giver.0 giver.1 giver.2), giver.3 ∙ sym at.1, giver_origin giver.1.kind giver.4)
 
-line_fits : (x : Exchange) (before : List (List ℕ)) (line : List ℕ) (done : List Line) (s : Saying) (l : Line) → Tells before done → says line ≡ Some s → IsPlaced x (before_of before) s l → LineFits x (map coming_of done) (coming_of l)
+line_fits : (x : Exchange) (before : List (List ℕ)) (line : List ℕ) (done : List Line) (s : Saying) (l : Line)
+    → Tells before done → says line ≡ Some s → IsPlaced x (before_of before) s l
+    → LineFits x (map coming_of done) (coming_of l)
 line_fits x before line done s l t is m =
     let b = before_is before in
     let number : l.number ≡ length before + 1 = m.number ∙ ap next_number b ∙ ap (λ n. n + 1) (length-map before is_origin) in
     let no_less : last_count before ≤ s.after = subst (λ (k : Before). k.last ≤ s.after) b m.no_less in
     record {
-      number = all_coming (λ (e : Coming). e.number < l.number) done (all_weaker (λ (k : Line). k.number ≤ length before) (λ (k : Line). k.number < l.number) done (λ k le. omega (arith, le, number)) t.numbers);
-      after = all_coming (λ (e : Coming). e.after ≤ l.after) done (all_weaker (λ (k : Line). k.after ≤ last_count before) (λ (k : Line). k.after ≤ l.after) done (λ k le. omega (arith, le, no_less, m.after)) t.counts);
+      number = all_coming (λ (e : Coming). e.number < l.number) done
+          (all_weaker (λ (k : Line). k.number ≤ length before) (λ (k : Line). k.number < l.number) done
+          (λ k le. omega (arith, le, number)) t.numbers);
+      after = all_coming (λ (e : Coming). e.after ≤ l.after) done
+          (all_weaker (λ (k : Line). k.after ≤ last_count before) (λ (k : Line). k.after ≤ l.after) done
+          (λ k le. omega (arith, le, no_less, m.after)) t.counts);
       entry = m.entry;
       values = m.many;
       words = subst (AllByRecursion IsWord) (sym m.values) (line_words line s is);
@@ -280,8 +321,10 @@ line_fits x before line done s l t is m =
 -- ---- all lines
 
 -- from a line on
-fits_from : (x : Exchange) (before : List (List ℕ)) (line : List ℕ) (done : List Line) (o : Option Saying) (first : Option Line) (ls : List Line) → says line ≡ o → Adds x (before_of before) o first → Tells before done
-    → ((more : List Line) → Tells (before ++ line ∷ []) more → LinesFit x (map coming_of more) (map coming_of ls)) → LinesFit x (map coming_of done) (map coming_of (cons_option first ls))
+fits_from : (x : Exchange) (before : List (List ℕ)) (line : List ℕ) (done : List Line) (o : Option Saying)
+    (first : Option Line) (ls : List Line) → says line ≡ o → Adds x (before_of before) o first → Tells before done
+    → ((more : List Line) → Tells (before ++ line ∷ []) more → LinesFit x (map coming_of more) (map coming_of ls))
+    → LinesFit x (map coming_of done) (map coming_of (cons_option first ls))
 fits_from x before line done None first ls is none t later =
     subst (λ (q : Option Line). LinesFit x (map coming_of done) (map coming_of (cons_option q ls))) (sym none) (later done (tells_skip before line done is t))
 fits_from x before line done (Some s) first ls is adds t later =
@@ -296,11 +339,13 @@ fits_from x before line done (Some s) first ls is adds t later =
           (later (done ++ l ∷ []) (tells_more before line done s l is number m.after m.kind no_less t)),
     )
 
-lines_fit : (x : Exchange) (before : List (List ℕ)) (done : List Line) (rest : List (List ℕ)) (list : List Line) → Tells before done → lines_behind x before rest ≡ Ok list → LinesFit x (map coming_of done) (map coming_of list)
+lines_fit : (x : Exchange) (before : List (List ℕ)) (done : List Line) (rest : List (List ℕ)) (list : List Line)
+    → Tells before done → lines_behind x before rest ≡ Ok list → LinesFit x (map coming_of done) (map coming_of list)
 unfolding lines_behind
 lines_fit x before done [] list t e = let same : [] ≡ list = cc in subst (λ ls. LinesFit x (map coming_of done) (map coming_of ls)) same tt
 lines_fit x before done (line ∷ rest) list t e =
-    let here = ok_first (added x (before_of before) line) (λ first. and_then (lines_behind x (before ++ line ∷ []) rest) (λ ls. Ok (cons_option first ls))) list e in
+    let here = ok_first (added x (before_of before) line)
+    (λ first. and_then (lines_behind x (before ++ line ∷ []) rest) (λ ls. Ok (cons_option first ls))) list e in
     let more = ok_first (lines_behind x (before ++ line ∷ []) rest) (λ ls. Ok (cons_option here.0 ls)) list here.2 in
     let told_all : Ok (cons_option here.0 more.0) ≡ Ok list = more.2 in
     let same : cons_option here.0 more.0 ≡ list = cc in
@@ -330,11 +375,13 @@ lines_few : (x : Exchange) (before rest : List (List ℕ)) (list : List Line) �
 unfolding lines_behind
 lines_few x before [] list e = let same : [] ≡ list = cc in omega (arith, ap length same)
 lines_few x before (line ∷ rest) list e =
-    let here = ok_first (added x (before_of before) line) (λ first. and_then (lines_behind x (before ++ line ∷ []) rest) (λ ls. Ok (cons_option first ls))) list e in
+    let here = ok_first (added x (before_of before) line)
+    (λ first. and_then (lines_behind x (before ++ line ∷ []) rest) (λ ls. Ok (cons_option first ls))) list e in
     let more = ok_first (lines_behind x (before ++ line ∷ []) rest) (λ ls. Ok (cons_option here.0 ls)) list here.2 in
     let told_all : Ok (cons_option here.0 more.0) ≡ Ok list = more.2 in
     let same : cons_option here.0 more.0 ≡ list = cc in
-    subst (λ (ls : List Line). length ls ≤ suc (length rest)) same (added_few here.0 more.0 (length rest) (lines_few x (before ++ line ∷ []) rest more.0 more.1))
+    subst (λ (ls : List Line). length ls ≤ suc (length rest)) same
+    (added_few here.0 more.0 (length rest) (lines_few x (before ++ line ∷ []) rest more.0 more.1))
 
 pub signal_lines_few : (x : Exchange) (text : List ℕ) (list : List Line) → length text ≤ 2 ^ 24 → signal_lines x text ≡ Ok list → length list < 2 ^ 32
 signal_lines_few x text list short e =

@@ -1,11 +1,15 @@
 -- Numbers as bytes, and read again.
-use Rattle.std.proofs.Common.{◌≡◌, ◌⊎◌, inl, inr, ℕ, zero, suc, ◌+◌, ◌-◌, ◌*◌, ◌/◌, ◌%◌, ◌<◌, ◌≤◌, ◌^◌, nat_lt, List, [], ◌∷◌, ◌++◌, get_or, take, length, length-append, Option, Some, None, reverse, refl, sym, ap, subst, ◌∙◌, append_assoc, arith}
+use Rattle.std.proofs.Common.{◌≡◌, ◌⊎◌, inl, inr, ℕ, zero, suc, ◌+◌, ◌-◌, ◌*◌, ◌/◌, ◌%◌, ◌<◌, ◌≤◌}
+use Rattle.std.proofs.Common.{◌^◌, nat_lt, List, [], ◌∷◌, ◌++◌, get_or, take, length, length-append}
+use Rattle.std.proofs.Common.{Option, Some, None, reverse, refl, sym, ap, subst, ◌∙◌, append_assoc}
+use Rattle.std.proofs.Common.{arith}
 use Rattle.std.specs.Prelude.{flat_map, option_to_list, MatchOption}
 use Rattle.std.proofs.lemmas.Bool.{cond-true, cond-false, lt-ltb, le-ltb, cases_lt}
 use Rattle.std.specs.List.{AllByRecursion}
 use Rattle.std.proofs.lemmas.List.{append-nil, reverse-append, take_more}
 use Rattle.std.proofs.lemmas.List.Concat.{flat_map-append}
-use Rattle.run_books.specs.Bytes.{after_number, after_words, digits, long_at, number_at, number_bytes, word_at, words_at}
+use Rattle.run_books.specs.Bytes.{after_number, after_words, digits, long_at, number_at}
+use Rattle.run_books.specs.Bytes.{number_bytes, word_at, words_at}
 
 -- the digits
 
@@ -102,7 +106,8 @@ pub put_begin : (old : List ℕ) (len capacity : ℕ) → Put old old [] len len
 put_begin old len capacity = record { items = sym (append-nil old); room = omega arith; same = refl }
 
 pub put_step : (old now next all : List ℕ) (len l m index capacity most later : ℕ) → index < length all → next ≡ now ++ number_bytes (get_or all index 0)
-    → m ≡ l + length (number_bytes (get_or all index 0)) → length (number_bytes (get_or all index 0)) ≤ 10 → later ≡ most → Put old now (take index all) len l index capacity most
+    → m ≡ l + length (number_bytes (get_or all index 0)) → length (number_bytes (get_or all index 0)) ≤ 10
+    → later ≡ most → Put old now (take index all) len l index capacity most
     → Put old next (take (index + 1) all) len m (index + 1) capacity later
 put_step old now next all len l m index capacity most later within put longer few kept p =
     let n = get_or all index 0 in
@@ -111,7 +116,8 @@ put_step old now next all len l m index capacity most later within put longer fe
       items =
           put ∙ ap (λ bs. bs ++ number_bytes n) p.items ∙ append_assoc old (flat_map number_bytes (take index all)) (number_bytes n)
           ∙ ap (λ bs. old ++ (flat_map number_bytes (take index all) ++ bs)) (sym one)
-          ∙ ap (λ bs. old ++ bs) (sym (flat_map-append number_bytes (take index all) (n ∷ [])) ∙ ap (flat_map number_bytes) (sym (take_more all index 0 within)));
+          ∙ ap (λ bs. old ++ bs) (sym (flat_map-append number_bytes (take index all) (n ∷ []))
+          ∙ ap (flat_map number_bytes) (sym (take_more all index 0 within)));
       room = omega (arith, p.room, longer, few);
       same = kept ∙ p.same;
     }
@@ -136,7 +142,8 @@ valued_begin start many =
     let all : many ≡ many - 0 = omega arith in
     record { words = ap (λ k. words_at k start) all; left = ap (λ k. after_words k start) all; counted = refl }
 
-words_next : (more : ℕ) (bytes : List ℕ) → (words_at (suc more) bytes ≡ word_at bytes ∷ words_at more (after_number bytes)) × (after_words (suc more) bytes ≡ after_words more (after_number bytes))
+words_next : (more : ℕ) (bytes : List ℕ) → (words_at (suc more) bytes ≡ word_at bytes
+    ∷ words_at more (after_number bytes)) × (after_words (suc more) bytes ≡ after_words more (after_number bytes))
 unfolding words_at after_words
 words_next more bytes = (refl, refl)
 
@@ -144,7 +151,8 @@ words_past : (bytes : List ℕ) → (words_at 0 bytes ≡ []) × (after_words 0 
 unfolding words_at after_words
 words_past bytes = (refl, refl)
 
-pub valued_more : (start bytes next values longer : List ℕ) (v many index : ℕ) → index < many → v ≡ word_at bytes → next ≡ after_number bytes → longer ≡ values ++ v ∷ []
+pub valued_more : (start bytes next values longer : List ℕ) (v many index : ℕ) → index < many → v ≡ word_at bytes
+    → next ≡ after_number bytes → longer ≡ values ++ v ∷ []
     → Valued start bytes values many index → Valued start next longer many (index + 1)
 valued_more start bytes next values longer v many index within read after put so_far =
     let rest = many - (index + 1) in
@@ -158,7 +166,8 @@ valued_more start bytes next values longer v many index within read after put so
       counted = omega (arith, ap length put, length-append values (v ∷ []), so_far.counted);
     }
 
-pub valued_end : (start bytes values : List ℕ) (many index : ℕ) → many ≤ index → Valued start bytes values many index → (values ≡ words_at many start) × (bytes ≡ after_words many start)
+pub valued_end : (start bytes values : List ℕ) (many index : ℕ) → many ≤ index → Valued start bytes values many index
+    → (values ≡ words_at many start) × (bytes ≡ after_words many start)
 valued_end start bytes values many index past so_far =
     let none : many - index ≡ 0 = omega (arith, past) in (
       sym (so_far.words ∙ ap (λ k. values ++ words_at k bytes) none ∙ ap (λ ws. values ++ ws) (words_past bytes).0 ∙ append-nil values),
@@ -169,11 +178,19 @@ valued_end start bytes values many index past so_far =
 
 at_last : (b : ℕ) (rest : List ℕ) → b < 128 → (number_at (b ∷ rest) ≡ b) × (after_number (b ∷ rest) ≡ rest)
 unfolding number_at after_number
-at_last b rest low = (cond-true (nat_lt b 128) b (b - 128 + 128 * number_at rest) (lt-ltb b 128 low), cond-true (nat_lt b 128) rest (after_number rest) (lt-ltb b 128 low))
+at_last b rest low = (
+  cond-true (nat_lt b 128) b (b - 128 + 128 * number_at rest) (lt-ltb b 128 low),
+  cond-true
+      (nat_lt b 128) rest (after_number rest) (lt-ltb b 128 low),
+)
 
 at_more : (b : ℕ) (rest : List ℕ) → 128 ≤ b → (number_at (b ∷ rest) ≡ b - 128 + 128 * number_at rest) × (after_number (b ∷ rest) ≡ after_number rest)
 unfolding number_at after_number
-at_more b rest high = (cond-false (nat_lt b 128) b (b - 128 + 128 * number_at rest) (le-ltb b 128 high), cond-false (nat_lt b 128) rest (after_number rest) (le-ltb b 128 high))
+at_more b rest high = (
+  cond-false (nat_lt b 128) b (b - 128 + 128 * number_at rest) (le-ltb b 128 high),
+  cond-false
+      (nat_lt b 128) rest (after_number rest) (le-ltb b 128 high),
+)
 
 -- a number that stands before others is read, and they are left
 abbrev Reads : List ℕ → ℕ → List ℕ → Type 0

@@ -1,5 +1,8 @@
--- Books and their parts: the books that are made of parts tell them, and where the state is valid they are parts of books.
-use Rattle.std.proofs.Common.{◌≡◌, ◌≢◌, ℕ, ◌+◌, ◌<◌, ◌≤◌, ◌^◌, Bool, true, false, ◌||◌, eqb, List, [], ◌∷◌, ◌++◌, length, map, drop, Option, Some, None, is_some, unwrap_or, refl, sym, ap, ◌∙◌, subst, arith, length-append}
+-- Books and their parts: the books that are made of parts tell them, and where the state is valid
+-- they are parts of books.
+use Rattle.std.proofs.Common.{◌≡◌, ◌≢◌, ℕ, ◌+◌, ◌<◌, ◌≤◌, ◌^◌, Bool, true, false, ◌||◌, eqb, List}
+use Rattle.std.proofs.Common.{[], ◌∷◌, ◌++◌, length, map, drop, Option, Some, None, is_some}
+use Rattle.std.proofs.Common.{unwrap_or, refl, sym, ap, ◌∙◌, subst, arith, length-append}
 use Rattle.std.specs.Prelude.{nat_eq}
 use lib.Dec.{T}
 use Rattle.std.specs.declared.cmp.Ordering.{Ordering}
@@ -86,7 +89,8 @@ alike p q are_p are_q same limit =
     let arrived : arrived_of q.lines q.given ≡ arrived_of p.lines p.given = ap (λ (s : State). s.arrived) same in
     let left : map coming_of (drop (length q.given) q.lines) ≡ map coming_of (drop (length p.given) p.lines) = ap (λ (s : State). s.lines) same in
     let given : q.given ≡ p.given = sym (all_given q.lines q.given are_q.within) ∙ ap forlopps_of arrived ∙ all_given p.lines p.given are_p.within in
-    let lines : map coming_of q.lines ≡ map coming_of p.lines = sym (all_lines q.lines q.given) ∙ (λ i. lines_of (arrived i) ++ left i) ∙ all_lines p.lines p.given in
+    let lines : map coming_of q.lines ≡ map coming_of p.lines = sym (all_lines q.lines q.given)
+    ∙ (λ i. lines_of (arrived i) ++ left i) ∙ all_lines p.lines p.given in
     record {
       waiting = ap (λ (s : State). s.waiting) same;
       chains = ap (λ (s : State). s.chains) same;
@@ -104,7 +108,8 @@ alike p q are_p are_q same limit =
 pub alike_of_books : (p q : BookParts) → AreParts p → AreParts q → account_of q ≡ account_of p → AreAlike p q
 alike_of_books p q are_p are_q same = alike p q are_p are_q (ap (λ (b : Account). silent b.state) same) (ap (λ (b : Account). b.limit) same)
 
--- ## Chains of a valid state: each has a record of its own, so that there are no more of them than cells
+-- ## Chains of a valid state: each has a record of its own, so that there are no more of them than
+-- cells
 
 pub not_equal : (r : Ordering) → T (is_lt r) → is_eq r ≡ false
 not_equal Less lt = refl
@@ -149,7 +154,8 @@ module _ (x : Exchange) (kept : IsExchange x) (s : State) (valid : IsValid x s) 
   mark_below : (c : List Held) → AllByRecursion (IsRecord x) c → HasRecords c → mark_of c < x.cells
   unfolding mark_of
   mark_below [] all some = absurd some
-  mark_below (h ∷ c) all some = subst (λ n. cell_number x.blocks (Mark h.file h.number) < n) (sym kept.numbered.cells) (cell_number-below x.blocks (Mark h.file h.number) (mark_is h all.0))
+  mark_below (h ∷ c) all some = subst (λ n. cell_number x.blocks (Mark h.file h.number) < n) (sym kept.numbered.cells)
+      (cell_number-below x.blocks (Mark h.file h.number) (mark_is h all.0))
 
   first_held : (h : Held) (c : List Held) (n : ℕ) → chain_at s.chains n ≡ h ∷ c → HoldsRecord s n h
   first_held h c n at = ap (λ chain. holds chain h.file h.number) at ∙ ap (λ b. b || holds c h.file h.number) (record_itself h.file h.number)
@@ -161,7 +167,8 @@ module _ (x : Exchange) (kept : IsExchange x) (s : State) (valid : IsValid x s) 
   one_number n m (h ∷ c) (g ∷ d) at_n at_m some other same =
       let of_n = subst (AllByRecursion (IsRecord x)) at_n (valid.chains.records n) in
       let of_m = subst (AllByRecursion (IsRecord x)) at_m (valid.chains.records m) in
-      let marks : Mark h.file h.number ≡ Mark g.file g.number = cell_number-once x.blocks (Mark h.file h.number) (Mark g.file g.number) (mark_is h of_n.0) (mark_is g of_m.0) same in
+      let marks : Mark h.file h.number ≡ Mark g.file g.number = cell_number-once x.blocks (Mark h.file h.number)
+      (Mark g.file g.number) (mark_is h of_n.0) (mark_is g of_m.0) same in
       let file : h.file ≡ g.file = cc in
       let number : h.number ≡ g.number = cc in
       valid.chains.apart n m h (first_held h c n at_n) ((λ i. holds (chain_at s.chains m) (file i) (number i)) ∙ first_held g d m at_m)
@@ -172,7 +179,8 @@ module _ (x : Exchange) (kept : IsExchange x) (s : State) (valid : IsValid x s) 
   abbrev HaveRecords : List ℕ → Type 0
   HaveRecords ns = AllByRecursion (λ n. HasRecords (chain_at s.chains n)) ns
 
-  marks_apart : (n : ℕ) (ns : List ℕ) → HasRecords (chain_at s.chains n) → AllByRecursion (λ q. eqb n q ≡ false) ns → HaveRecords ns → AllByRecursion (λ q. eqb (mark_at n) q ≡ false) (map mark_at ns)
+  marks_apart : (n : ℕ) (ns : List ℕ) → HasRecords (chain_at s.chains n) → AllByRecursion (λ q. eqb n q ≡ false) ns
+      → HaveRecords ns → AllByRecursion (λ q. eqb (mark_at n) q ≡ false) (map mark_at ns)
   unfolding mark_at
   marks_apart n [] some apart all = tt
   marks_apart n (m ∷ ns) some apart all = (
@@ -183,14 +191,16 @@ module _ (x : Exchange) (kept : IsExchange x) (s : State) (valid : IsValid x s) 
   marks_differ : (ns : List ℕ) → IsDistinct eqb ns → HaveRecords ns → IsDistinct eqb (map mark_at ns)
   marks_differ [] once all = none_twice
   marks_differ (n ∷ ns) once all =
-      IsDistinct-cons eqb (mark_at n) (map mark_at ns) (marks_apart n ns all.0 (IsDistinct-head eqb n ns once) all.1) (marks_differ ns (IsDistinct-tail eqb n ns once) all.1)
+      IsDistinct-cons eqb (mark_at n) (map mark_at ns) (marks_apart n ns all.0 (IsDistinct-head eqb n ns once) all.1)
+      (marks_differ ns (IsDistinct-tail eqb n ns once) all.1)
 
   marks_below : (ns : List ℕ) → HaveRecords ns → (q : ℕ) → list_any (eqb q) (map mark_at ns) ≡ true → q < x.cells
   unfolding mark_at
   marks_below [] all q is = absurd (cc)
   marks_below (n ∷ ns) all q is = by (eqb q (mark_at n)) refl is (marks_below ns all.1 q)
     where
-      by : (b : Bool) → eqb q (mark_at n) ≡ b → (b || list_any (eqb q) (map mark_at ns)) ≡ true → (list_any (eqb q) (map mark_at ns) ≡ true → q < x.cells) → q < x.cells
+      by : (b : Bool) → eqb q (mark_at n) ≡ b → (b || list_any (eqb q) (map mark_at ns)) ≡ true
+          → (list_any (eqb q) (map mark_at ns) ≡ true → q < x.cells) → q < x.cells
       by true same is rest = subst (λ k. k < x.cells) (sym (eqb-true q (mark_at n) same)) (mark_below (chain_at s.chains n) (valid.chains.records n) all.0)
       by false same is rest = rest is
 
@@ -215,8 +225,12 @@ module _ (x : Exchange) (kept : IsExchange x) (s : State) (valid : IsValid x s) 
 
 -- ## The parts of a valid state
 
-pub parts_of_valid : (x : Exchange) (p : BookParts) (words : List ℕ) → IsExchange x → IsSound p.chains.chains p.chains.dead → p.limit ≤ MOST_JOBS → p.ended ≤ p.limit → p.restarts < 2 ^ 32 → length p.lines < 2 ^ 32
-    → p.next_line ≡ length p.given → length p.given ≤ length p.lines → ((n : ℕ) → get nat_eq p.numbers n ≡ found_in (arrived_of p.lines p.given) n) → IsValid x (with_words (account_of p).state words) → AreParts p
+pub parts_of_valid : (x : Exchange) (p : BookParts) (words : List ℕ) → IsExchange x
+    → IsSound p.chains.chains p.chains.dead → p.limit ≤ MOST_JOBS → p.ended ≤ p.limit → p.restarts < 2 ^ 32
+    → length p.lines < 2 ^ 32
+    → p.next_line ≡ length p.given → length p.given ≤ length p.lines
+    → ((n : ℕ) → get nat_eq p.numbers n ≡ found_in (arrived_of p.lines p.given) n)
+    → IsValid x (with_words (account_of p).state words) → AreParts p
 parts_of_valid x p words kept sound limit ended restarts lines next_line within numbers valid =
     let s = with_words (account_of p).state words in
     let chains = chains_few x kept s valid sound.some in

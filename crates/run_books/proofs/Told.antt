@@ -1,13 +1,20 @@
 -- Events as bytes, and told again.
-use Rattle.std.proofs.Common.{◌≡◌, ◌≢◌, ℕ, zero, suc, ◌+◌, ◌*◌, ◌/◌, ◌%◌, ◌<◌, ◌≤◌, ◌^◌, min, List, [], ◌∷◌, ◌++◌, flat_map, length, reverse, refl, sym, ap, subst, ◌∙◌, append_assoc, arith, length-append}
+use Rattle.std.proofs.Common.{◌≡◌, ◌≢◌, ℕ, zero, suc, ◌+◌, ◌*◌, ◌/◌, ◌%◌, ◌<◌, ◌≤◌, ◌^◌, min, List}
+use Rattle.std.proofs.Common.{[], ◌∷◌, ◌++◌, flat_map, length, reverse, refl, sym, ap, subst, ◌∙◌}
+use Rattle.std.proofs.Common.{append_assoc, arith, length-append}
 use Rattle.std.specs.List.{AllByRecursion}
 use Rattle.std.proofs.lemmas.List.{append-nil}
 use Rattle.std.proofs.lemmas.List.Concat.{flat_map-append}
 use Rattle.plex_limits.specs.declared.limits.TheConstants.{MOST_VALUES}
 use Rattle.job_types.specs.declared.fault.Fault.{Fault}
-use Rattle.job_types.specs.declared.fault.Fault.TheVariants.{Pointer, Range, Divide, NotOwn, NoForlopp, Chain, BadEnd, Depth, Sends, Budget}
+use Rattle.job_types.specs.declared.fault.Fault.TheVariants.{Pointer, Range, Divide, NotOwn}
+use Rattle.job_types.specs.declared.fault.Fault.TheVariants.{NoForlopp, Chain, BadEnd, Depth, Sends}
+use Rattle.job_types.specs.declared.fault.Fault.TheVariants.{Budget}
 use Rattle.source_meaning.specs.State.{RunEvent, Out, Release, Lost, Restart}
-use Rattle.run_books.specs.Bytes.{AreBytesOf, IsNarrow, after_event, after_kind, after_number, after_words, event_bytes, event_numbers, event_of_kind, events_in, fault_number, fault_of, first_event, long_at, number_at, number_bytes, told, word_at, words_at}
+use Rattle.run_books.specs.Bytes.{AreBytesOf, IsNarrow, after_event, after_kind, after_number}
+use Rattle.run_books.specs.Bytes.{after_words, event_bytes, event_numbers, event_of_kind, events_in}
+use Rattle.run_books.specs.Bytes.{fault_number, fault_of, first_event, long_at, number_at}
+use Rattle.run_books.specs.Bytes.{number_bytes, told, word_at, words_at}
 use Rattle.run_books.proofs.Numbered.{number_read, some_bytes}
 
 -- numbers one after the other, before something else
@@ -29,7 +36,8 @@ row_word bytes n ns rest is below = omega (arith, below, ap number_at is ∙ row
 row_after : (bytes : List ℕ) (n : ℕ) (ns rest : List ℕ) → bytes ≡ row (n ∷ ns) rest → after_number bytes ≡ row ns rest
 row_after bytes n ns rest is = ap after_number is ∙ row_next n ns rest
 
-row_words : (bytes vs rest : List ℕ) → bytes ≡ row vs rest → AllByRecursion (λ (v : ℕ). v < 2 ^ 32) vs → (words_at (length vs) bytes ≡ vs) × (after_words (length vs) bytes ≡ rest)
+row_words : (bytes vs rest : List ℕ) → bytes ≡ row vs rest → AllByRecursion (λ (v : ℕ). v < 2 ^ 32) vs
+    → (words_at (length vs) bytes ≡ vs) × (after_words (length vs) bytes ≡ rest)
 unfolding words_at after_words
 row_words bytes [] rest is below = (refl, is)
 row_words bytes (v ∷ vs) rest is below =
@@ -53,7 +61,8 @@ record Begins (bytes : List ℕ) (kind more : ℕ) (left : List ℕ) : Type 0 wh
   event : first_event bytes ≡ event_of_kind kind more left
   after : after_event bytes ≡ after_kind kind more left
 
-begins : (bytes : List ℕ) (n kind more : ℕ) (ns rest : List ℕ) → bytes ≡ row (n ∷ ns) rest → n ≡ 4 * more + kind → kind < 4 → more < 100 → Begins bytes kind more (row ns rest)
+begins : (bytes : List ℕ) (n kind more : ℕ) (ns rest : List ℕ) → bytes ≡ row (n ∷ ns) rest → n ≡ 4 * more + kind
+    → kind < 4 → more < 100 → Begins bytes kind more (row ns rest)
 unfolding first_event after_event
 begins bytes n kind more ns rest is both low few =
     let number : long_at bytes ≡ n = row_long bytes n ns rest is (omega (arith, both, low, few)) in
@@ -69,7 +78,8 @@ record Again (e : RunEvent) (bytes rest : List ℕ) : Type 0 where
 
 again : (e : RunEvent) (bytes rest : List ℕ) → bytes ≡ event_bytes e ++ rest → IsNarrow e → Again e bytes rest
 again (Out job signal values forlopp) bytes rest is narrow =
-    let begin = begins bytes (4 * length values) 0 (length values) (job ∷ signal ∷ forlopp ∷ values) rest is (omega arith) (omega arith) (omega (arith, narrow.2)) in
+    let begin = begins bytes (4 * length values) 0 (length values) (job ∷ signal ∷ forlopp ∷ values) rest is
+    (omega arith) (omega arith) (omega (arith, narrow.2)) in
     let one = row (job ∷ signal ∷ forlopp ∷ values) rest in
     let two = row_next job (signal ∷ forlopp ∷ values) rest in
     let three = ap after_number two ∙ row_next signal (forlopp ∷ values) rest in
@@ -197,7 +207,8 @@ all_more : (es : List RunEvent) (e : RunEvent) → AllByRecursion IsNarrow es �
 all_more [] e all last = (last, tt)
 all_more (d ∷ es) e all last = (all.0, all_more es e all.1 last)
 
-are_more : (bytes more : List ℕ) (e : RunEvent) → AreBytesOf bytes (told bytes) → more ≡ bytes ++ event_bytes e → IsNarrow e → AreBytesOf more (told bytes ++ e ∷ [])
+are_more : (bytes more : List ℕ) (e : RunEvent) → AreBytesOf bytes (told bytes) → more ≡ bytes ++ event_bytes e
+    → IsNarrow e → AreBytesOf more (told bytes ++ e ∷ [])
 are_more bytes more e are put narrow = record {
   are =
       put ∙ ap (λ bs. bs ++ event_bytes e) are.are ∙ ap (λ bs. flat_map event_bytes (told bytes) ++ bs) (sym (append-nil (event_bytes e)))
@@ -205,7 +216,8 @@ are_more bytes more e are put narrow = record {
   narrow = all_more (told bytes) e are.narrow narrow;
 }
 
-pub told_more : (bytes more : List ℕ) (e : RunEvent) → AreBytesOf bytes (told bytes) → more ≡ bytes ++ event_bytes e → IsNarrow e → told more ≡ told bytes ++ e ∷ []
+pub told_more : (bytes more : List ℕ) (e : RunEvent) → AreBytesOf bytes (told bytes) → more ≡ bytes ++ event_bytes e
+    → IsNarrow e → told more ≡ told bytes ++ e ∷ []
 told_more bytes more e are put narrow = are_of more (told bytes ++ e ∷ []) (are_more bytes more e are put narrow)
 
 pub more_told : (bytes more : List ℕ) (e : RunEvent) → AreBytesOf bytes (told bytes) → more ≡ bytes ++ event_bytes e → IsNarrow e → AreBytesOf more (told more)
@@ -217,7 +229,8 @@ record Next (bytes left : List ℕ) (e : RunEvent) : Type 0 where
   told_now : told bytes ≡ e ∷ told left
   are : AreBytesOf left (told left)
 
-next_of : (bytes left : List ℕ) (e : RunEvent) (es : List RunEvent) → AreBytesOf bytes es → 0 < length bytes → e ≡ first_event bytes → left ≡ after_event bytes → Next bytes left e
+next_of : (bytes left : List ℕ) (e : RunEvent) (es : List RunEvent) → AreBytesOf bytes es → 0 < length bytes
+    → e ≡ first_event bytes → left ≡ after_event bytes → Next bytes left e
 next_of bytes left e [] are some first after = absurd (omega (arith, some, ap length are.are))
 next_of bytes left e (d ∷ es) are some first after =
     let here = again d bytes (flat_map event_bytes es) are.are are.narrow.0 in
@@ -227,19 +240,23 @@ next_of bytes left e (d ∷ es) are some first after =
       are = are_told left es others;
     }
 
-pub told_next : (bytes left : List ℕ) (e : RunEvent) → AreBytesOf bytes (told bytes) → 0 < length bytes → e ≡ first_event bytes → left ≡ after_event bytes → told bytes ≡ e ∷ told left
+pub told_next : (bytes left : List ℕ) (e : RunEvent) → AreBytesOf bytes (told bytes) → 0 < length bytes
+    → e ≡ first_event bytes → left ≡ after_event bytes → told bytes ≡ e ∷ told left
 told_next bytes left e are some first after = (next_of bytes left e (told bytes) are some first after).told_now
 
-pub next_told : (bytes left : List ℕ) (e : RunEvent) → AreBytesOf bytes (told bytes) → 0 < length bytes → e ≡ first_event bytes → left ≡ after_event bytes → AreBytesOf left (told left)
+pub next_told : (bytes left : List ℕ) (e : RunEvent) → AreBytesOf bytes (told bytes) → 0 < length bytes
+    → e ≡ first_event bytes → left ≡ after_event bytes → AreBytesOf left (told left)
 next_told bytes left e are some first after = (next_of bytes left e (told bytes) are some first after).are
 
 -- by the code
 
-pub first_by : (bytes left : List ℕ) (kind n : ℕ) (e : RunEvent) → n ≡ long_at bytes → left ≡ after_number bytes → n % 4 ≡ kind → e ≡ event_of_kind kind (n / 4) left → e ≡ first_event bytes
+pub first_by : (bytes left : List ℕ) (kind n : ℕ) (e : RunEvent) → n ≡ long_at bytes → left ≡ after_number bytes
+    → n % 4 ≡ kind → e ≡ event_of_kind kind (n / 4) left → e ≡ first_event bytes
 unfolding first_event
 first_by bytes left kind n e number after is tells = tells ∙ (λ i. event_of_kind (sym (ap (λ m. m % 4) (sym number) ∙ is) i) (number i / 4) (after i))
 
-pub after_by : (bytes left behind : List ℕ) (kind n : ℕ) → n ≡ long_at bytes → left ≡ after_number bytes → n % 4 ≡ kind → behind ≡ after_kind kind (n / 4) left → behind ≡ after_event bytes
+pub after_by : (bytes left behind : List ℕ) (kind n : ℕ) → n ≡ long_at bytes → left ≡ after_number bytes → n % 4 ≡ kind
+    → behind ≡ after_kind kind (n / 4) left → behind ≡ after_event bytes
 unfolding after_event
 after_by bytes left behind kind n number after is tells = tells ∙ (λ i. after_kind (sym (ap (λ m. m % 4) (sym number) ∙ is) i) (number i / 4) (after i))
 
@@ -247,7 +264,8 @@ pub last_kind : (n : ℕ) → n % 4 ≢ 0 → n % 4 ≢ 1 → n % 4 ≢ 2 → n 
 last_kind n zero_not one_not two_not = omega (arith, zero_not, one_not, two_not)
 
 -- an event is put behind others
-pub row_put : (old mid new a b : List ℕ) → mid ≡ old ++ flat_map number_bytes a → new ≡ mid ++ flat_map number_bytes b → new ≡ old ++ flat_map number_bytes (a ++ b)
+pub row_put : (old mid new a b : List ℕ) → mid ≡ old ++ flat_map number_bytes a → new ≡ mid ++ flat_map number_bytes b
+    → new ≡ old ++ flat_map number_bytes (a ++ b)
 row_put old mid new a b first second =
     second ∙ ap (λ bs. bs ++ flat_map number_bytes b) first ∙ append_assoc old (flat_map number_bytes a) (flat_map number_bytes b)
     ∙ ap (λ bs. old ++ bs) (sym (flat_map-append number_bytes a b))

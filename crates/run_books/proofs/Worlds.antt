@@ -1,5 +1,7 @@
 -- A release and a restart make the stores that are listed of them, and no other touch.
-use Rattle.std.proofs.Common.{◌≡◌, ℕ, ◌+◌, Bool, true, false, cond, List, [], ◌∷◌, ◌++◌, map, length, Option, Some, None, slice_get, refl, sym, ap, ◌∙◌, arith, append_assoc}
+use Rattle.std.proofs.Common.{◌≡◌, ℕ, ◌+◌, Bool, true, false, cond, List, [], ◌∷◌, ◌++◌, map}
+use Rattle.std.proofs.Common.{length, Option, Some, None, slice_get, refl, sym, ap, ◌∙◌, arith}
+use Rattle.std.proofs.Common.{append_assoc}
 use Rattle.std.proofs.lemmas.List.{append-nil, map-append}
 use Rattle.std.specs.Option.{option_map_or}
 use Rattle.job_types.specs.declared.chain.Held.{Held}
@@ -11,7 +13,8 @@ use Rattle.exchange_model.specs.declared.block.Variable.{Variable}
 use Rattle.exchange_model.specs.Cells.{Placed, block_cells, field_cell, mark_cell}
 use Rattle.source_meaning.specs.Changes.{opens_fields, opens_record}
 use Rattle.source_meaning.specs.Retirement.{all_cleared, all_opened, cleared, opened}
-use Rattle.run_books.specs.Stores.{all_clear_stores, all_stores, clear_of, clear_stores, field_stores, first_of, held_stores, record_stores, touch_of}
+use Rattle.run_books.specs.Stores.{all_clear_stores, all_stores, clear_of, clear_stores}
+use Rattle.run_books.specs.Stores.{field_stores, first_of, held_stores, record_stores, touch_of}
 use Rattle.run_books.specs.declared.stores.Write.{Write}
 
 -- a world after these stores
@@ -29,9 +32,11 @@ made_then a b w =
     let both = map-append touch_of a b in
     ap (λ ts. record { store = stored w.store ts; trace = w.trace ++ ts }) both
     ∙ ap (λ s. record { store = s; trace = w.trace ++ (map touch_of a ++ map touch_of b) }) (stored-append (map touch_of a) (map touch_of b) w.store)
-    ∙ ap (λ t. record { store = stored (stored w.store (map touch_of a)) (map touch_of b); trace = t }) (sym (append_assoc w.trace (map touch_of a) (map touch_of b)))
+    ∙ ap (λ t. record { store = stored (stored w.store (map touch_of a)) (map touch_of b); trace = t })
+    (sym (append_assoc w.trace (map touch_of a) (map touch_of b)))
 
-fields_made : (p : Placed) (number field : ℕ) (fs : List Variable) (w : World) → opens_fields p number field fs w ≡ made (field_stores (first_of p number + field) fs) w
+fields_made : (p : Placed) (number field : ℕ) (fs : List Variable) (w : World)
+    → opens_fields p number field fs w ≡ made (field_stores (first_of p number + field) fs) w
 fields_made p number field [] w = sym (made_none w)
 fields_made p number field (v ∷ fs) w =
     let at : first_of p number + (field + 1) ≡ first_of p number + field + 1 = omega arith in
@@ -55,7 +60,8 @@ opened_made files h w = at (slice_get files h.file)
 pub all_made : (files : List Placed) (hs : List Held) (w : World) → all_opened files hs w ≡ made (all_stores files hs) w
 all_made files [] w = sym (made_none w)
 all_made files (h ∷ hs) w =
-    all_made files hs (opened files h w) ∙ ap (made (all_stores files hs)) (opened_made files h w) ∙ sym (made_then (held_stores files h) (all_stores files hs) w)
+    all_made files hs (opened files h w) ∙ ap (made (all_stores files hs)) (opened_made files h w)
+    ∙ sym (made_then (held_stores files h) (all_stores files hs) w)
 
 one_made : (b : Bool) (cell v : ℕ) (w : World) → cond b (writes cell v w) w ≡ made (cond b (record { word = cell; value = v } ∷ []) []) w
 one_made true cell v w = refl
@@ -64,10 +70,13 @@ one_made false cell v w = sym (made_none w)
 cleared_made : (cell : ℕ) (vs : List Variable) (w : World) → cleared cell vs w ≡ made (clear_stores cell vs) w
 cleared_made cell [] w = sym (made_none w)
 cleared_made cell (v ∷ vs) w =
-    cleared_made (cell + 1) vs (cond v.clear (writes cell v.init w) w) ∙ ap (made (clear_stores (cell + 1) vs)) (one_made v.clear cell v.init w) ∙ sym (made_then (clear_of cell v) (clear_stores (cell + 1) vs) w)
+    cleared_made (cell + 1) vs (cond v.clear (writes cell v.init w) w)
+    ∙ ap (made (clear_stores (cell + 1) vs)) (one_made v.clear cell v.init w)
+    ∙ sym (made_then (clear_of cell v) (clear_stores (cell + 1) vs) w)
 
 pub blocks_made : (cell : ℕ) (bs : List Block) (w : World) → all_cleared cell bs w ≡ made (all_clear_stores cell bs) w
 blocks_made cell [] w = sym (made_none w)
 blocks_made cell (k ∷ bs) w =
-    blocks_made (cell + block_cells k) bs (cleared cell k.variables w) ∙ ap (made (all_clear_stores (cell + block_cells k) bs)) (cleared_made cell k.variables w)
+    blocks_made (cell + block_cells k) bs (cleared cell k.variables w)
+    ∙ ap (made (all_clear_stores (cell + block_cells k) bs)) (cleared_made cell k.variables w)
     ∙ sym (made_then (clear_stores cell k.variables) (all_clear_stores (cell + block_cells k) bs) w)

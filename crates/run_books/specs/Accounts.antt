@@ -1,5 +1,8 @@
--- What contracts see of the books: a state whose words stand elsewhere, how many jobs run, and how many may end.
-use Rattle.std.specs.Prelude.{◌≡◌, ℕ, ◌+◌, ◌*◌, ◌<◌, ◌≤◌, ◌^◌, nat_lt, Bool, false, List, [], ◌∷◌, ◌++◌, length, Option, Some, None, unwrap_or, Result, MatchResult, if◌then◌else◌}
+-- What contracts see of the books: a state whose words stand elsewhere, how many jobs run, and how
+-- many may end.
+use Rattle.std.specs.Prelude.{◌≡◌, ℕ, ◌+◌, ◌*◌, ◌<◌, ◌≤◌, ◌^◌, nat_lt, Bool, false, List, [], ◌∷◌}
+use Rattle.std.specs.Prelude.{◌++◌, length, Option, Some, None, unwrap_or, Result, MatchResult}
+use Rattle.std.specs.Prelude.{if◌then◌else◌}
 use Rattle.plex_limits.specs.declared.limits.TheConstants.{MOST_CELLS, MOST_JOBS, MOST_SENT}
 use Rattle.std.specs.FinMap as map
 use Rattle.job_types.specs.Forlopps.{ChainMap, Dead, is_dead, none_dead}
@@ -24,8 +27,8 @@ pub record Account : Type 0 where
 abbrev pub with_words : State → List ℕ → State
 with_words s words = record s { store = words }
 
--- what holds of the books at every moment: each job that has ended brought one restart, one chain and 255 new numbers at the
--- most, beside what the books began with
+-- what holds of the books at every moment: each job that has ended brought one restart, one chain
+-- and 255 new numbers at the most, beside what the books began with
 pub record IsKept (b : Account) : Type 0 where
   pub few : b.limit ≤ MOST_JOBS
   pub within : b.state.ended + b.running ≤ b.limit
@@ -37,7 +40,8 @@ pub record IsKept (b : Account) : Type 0 where
   pub chains : map.len b.state.chains ≤ MOST_CELLS + b.state.ended
 
 -- the account of these parts
-abbrev pub account : Timetable → Waiting → ChainMap → Dead → List RunEvent → (next ended restarts running limit : ℕ) → Account
+abbrev pub account : Timetable → Waiting → ChainMap → Dead → List RunEvent
+    → (next ended restarts running limit : ℕ) → Account
 account t waiting chains dead events next ended restarts running limit = record {
   state = record {
     store = [];
@@ -57,7 +61,8 @@ account t waiting chains dead events next ended restarts running limit = record 
 
 -- the books before the first line has arrived: with the opening store, this is the opening
 abbrev pub opened : List Coming → ℕ → Account
-opened lines limit = account (record { lines = lines; arrived = [] }) nobody map.empty none_dead [] 1 0 0 0 limit
+opened lines limit = account (record { lines = lines; arrived = [] }) nobody map.empty none_dead []
+    1 0 0 0 limit
 
 -- the start of the next job, where the limit lets one more begin
 abbrev pub upcoming : Account → Option JobStart
@@ -75,10 +80,16 @@ line_arrives x (l ∷ rest) s = (if is_due l s then Some (arrives x l rest s) el
 
 -- the job of a line that arrives
 abbrev pub job_of : Exchange → Coming → State → Job
-job_of x l s = record { entry = l.entry; level = level_of x l.entry; values = l.values; forlopp = forlopp_for l.origin s }
+job_of x l s = record {
+  entry = l.entry;
+  level = level_of x l.entry;
+  values = l.values;
+  forlopp = forlopp_for l.origin s;
+}
 
 -- the next line of a state, before these: its number, where its forlopp comes from, and its job
-pub record IsLine (x : Exchange) (l : Coming) (rest : List Coming) (number : ℕ) (origin : Origin) (job : Job) (s : State) : Type 0 where
+pub record IsLine (x : Exchange) (l : Coming) (rest : List Coming) (number : ℕ) (origin : Origin)
+    (job : Job) (s : State) : Type 0 where
   pub next : s.lines ≡ l ∷ rest
   pub numbered : number ≡ l.number
   pub from : origin ≡ l.origin
@@ -95,11 +106,17 @@ after_arrival x b = record b { state = unwrap_or (line_arrives x b.state.lines b
 
 -- the next line has arrived, if it was due; where memory was refused, nothing has changed
 abbrev pub TellsArrival : {E : Type 0} → Exchange → Account → Account → Result Bool E → Type 0
-TellsArrival x old new told = MatchResult told (λ due. (due ≡ is_next_due old.state.lines old.state) × (new ≡ after_arrival x old)) (λ _. new ≡ old)
+TellsArrival x old new told = MatchResult told
+    (λ due. (due ≡ is_next_due old.state.lines old.state) × (new ≡ after_arrival x old))
+    (λ _. new ≡ old)
 
--- the next line has arrived, which has this number and this job; where memory was refused, nothing has changed
+-- the next line has arrived, which has this number and this job; where memory was refused, nothing
+-- has changed
 abbrev pub TakesLine : {A E : Type 0} → ℕ → Origin → Job → Account → Account → Result A E → Type 0
-TakesLine number origin job old new told = MatchResult told (λ _. (x : Exchange) (l : Coming) (rest : List Coming) → IsLine x l rest number origin job old.state → new ≡ record old { state = arrives x l rest old.state }) (λ _. new ≡ old)
+TakesLine number origin job old new told = MatchResult told
+    (λ _. (x : Exchange) (l : Coming) (rest : List Coming)
+    → IsLine x l rest number origin job old.state
+    → new ≡ record old { state = arrives x l rest old.state }) (λ _. new ≡ old)
 
 -- a job of a line joins those that wait, unless its forlopp is dead
 abbrev pub admitted : Dead → Job → Waiting → Waiting
@@ -117,9 +134,11 @@ untold b = record b { state = record b.state { events = [] } }
 abbrev pub after_arrivals : Exchange → Account → Account
 after_arrivals x b = record b { state = arrivals x b.state }
 
--- all lines that are due have arrived; where memory was refused, some of them have, and the others are still to come
+-- all lines that are due have arrived; where memory was refused, some of them have, and the others
+-- are still to come
 abbrev pub LetsArrive : {A E : Type 0} → Exchange → Account → Account → Result A E → Type 0
-LetsArrive x old new told = MatchResult told (λ _. new ≡ after_arrivals x old) (λ _. after_arrivals x new ≡ after_arrivals x old)
+LetsArrive x old new told = MatchResult told (λ _. new ≡ after_arrivals x old)
+    (λ _. after_arrivals x new ≡ after_arrivals x old)
 
 -- for how many ended jobs the next line waits
 abbrev pub next_count : List Coming → Option ℕ

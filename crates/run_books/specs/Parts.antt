@@ -7,10 +7,11 @@ use Rattle.run_books.specs.Lines.{AreFound, timetable}
 
 -- the books of these parts
 abbrev pub account_of : BookParts → Account
-account_of p = account (timetable p.lines p.given) p.buffers.waiting p.chains.chains p.chains.dead p.events.events p.next_forlopp p.ended p.restarts 0 p.limit
+account_of p = account (timetable p.lines p.given) p.buffers.waiting p.chains.chains p.chains.dead
+    p.events.events p.next_forlopp p.ended p.restarts 0 p.limit
 
--- the parts are those of books: each line that has arrived has a forlopp, which is found by the number of the line, and what
--- holds of all books holds of these
+-- the parts are those of books: each line that has arrived has a forlopp, which is found by the
+-- number of the line, and what holds of all books holds of these
 pub record AreParts (p : BookParts) : Type 0 where
   pub next_line : p.next_line ≡ length p.given
   pub within : length p.given ≤ length p.lines

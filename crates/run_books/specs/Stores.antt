@@ -1,5 +1,6 @@
 -- The stores of a release and of a restart, in their order.
-use Rattle.std.specs.Prelude.{◌≡◌, ℕ, zero, suc, ◌+◌, ◌*◌, Bool, true, List, [], ◌∷◌, ◌++◌, flat_map, length, slice_get, if◌then◌else◌}
+use Rattle.std.specs.Prelude.{◌≡◌, ℕ, zero, suc, ◌+◌, ◌*◌, Bool, true, List, [], ◌∷◌, ◌++◌}
+use Rattle.std.specs.Prelude.{flat_map, length, slice_get, if◌then◌else◌}
 use Rattle.std.specs.Option.{option_map_or}
 use Rattle.job_types.specs.declared.chain.Held.{Held}
 use Rattle.job_types.specs.declared.outcome.JobDone.{JobDone}
@@ -30,7 +31,8 @@ first_of p number = p.first + number * record_cells p.file
 
 -- a record is opened: its fields, and then its mark
 abbrev pub record_stores : Placed → ℕ → List Write
-record_stores p number = field_stores (first_of p number) p.file.fields ++ record { word = first_of p number + length p.file.fields; value = 0 } ∷ []
+record_stores p number = field_stores (first_of p number) p.file.fields
+    ++ record { word = first_of p number + length p.file.fields; value = 0 } ∷ []
 
 abbrev pub held_stores : List Placed → Held → List Write
 held_stores files h = option_map_or (λ p. record_stores p h.number) (slice_get files h.file) []
@@ -59,18 +61,24 @@ clear_stores cell (v ∷ rest) = clear_of cell v ++ clear_stores (cell + 1) rest
 -- those of these blocks, the first of which begins at this cell
 abbrev pub all_clear_stores : ℕ → List Block → List Write
 all_clear_stores cell [] = []
-all_clear_stores cell (k ∷ rest) = clear_stores cell k.variables ++ all_clear_stores (cell + block_cells k) rest
+all_clear_stores cell (k ∷ rest) =
+    clear_stores cell k.variables ++ all_clear_stores (cell + block_cells k) rest
 
--- those of a restart: the records of all chains are opened, and the CLEAR variables get their INIT values
+-- those of a restart: the records of all chains are opened, and the CLEAR variables get their INIT
+-- values
 abbrev pub restart_stores : Exchange → ChainMap → List Write
-restart_stores x chains = all_stores (placed_files x.blocks) (all_records chains) ++ all_clear_stores 0 x.blocks
+restart_stores x chains =
+    all_stores (placed_files x.blocks) (all_records chains) ++ all_clear_stores 0 x.blocks
 
--- the aftermath of a job of this forlopp, which left this chain, where the forlopps have these chains: nothing is to be stored
--- after a job that ended of itself; a fault opens the records of the chain or, without a forlopp, all that a restart opens
+-- the aftermath of a job of this forlopp, which left this chain, where the forlopps have these
+-- chains: nothing is to be stored after a job that ended of itself; a fault opens the records of
+-- the chain or, without a forlopp, all that a restart opens
 abbrev pub IsAftermath : Exchange → ℕ → Outcome → List Held → ChainMap → Aftermath → Type 0
 IsAftermath x forlopp Ended chain chains a = a.stores ≡ []
-IsAftermath x zero (Faulted f point) chain chains a = (a.stores ≡ restart_stores x chains) × (a.records ≡ length (all_records chains))
-IsAftermath x (suc n) (Faulted f point) chain chains a = a.stores ≡ all_stores (placed_files x.blocks) chain
+IsAftermath x zero (Faulted f point) chain chains a =
+    (a.stores ≡ restart_stores x chains) × (a.records ≡ length (all_records chains))
+IsAftermath x (suc n) (Faulted f point) chain chains a =
+    a.stores ≡ all_stores (placed_files x.blocks) chain
 
 -- the aftermath of a job of this forlopp that left this
 abbrev pub IsAftermathOf : Exchange → ℕ → JobDone → ChainMap → Aftermath → Type 0

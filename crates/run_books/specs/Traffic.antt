@@ -10,13 +10,15 @@ use Rattle.run_books.specs.declared.event.Faulty.{Faulty}
 abbrev pub with_traffic : Waiting → List RunEvent → ℕ → State → State
 with_traffic waiting events next s = record s { waiting = waiting; events = events; next = next }
 
--- where so many jobs have ended, sends lead from these jobs that wait, events and next new number to those
+-- where so many jobs have ended, sends lead from these jobs that wait, events and next new number
+-- to those
 abbrev pub Leads : ℕ → (State → State) → (State → State) → (State → State) → Type 0
 Leads ended sends before after = (s : State) → s.ended ≡ ended → sends (before s) ≡ after s
 
 -- a release by this fault, with the jobs and the records of its forlopp
 abbrev pub release_of : ℕ → Faulty → Waiting → ChainMap → RunEvent
-release_of forlopp f w chains = Release forlopp f.job f.fault f.point (count_of forlopp w) (length (chain_at chains forlopp))
+release_of forlopp f w chains =
+    Release forlopp f.job f.fault f.point (count_of forlopp w) (length (chain_at chains forlopp))
 
 -- a restart by this fault, with all jobs and so many records
 abbrev pub restart_of : Faulty → Waiting → ℕ → RunEvent

@@ -1,4 +1,5 @@
-// What is to be stored after a job has come to its end: it is listed before the first change, so that none can be refused.
+// What is to be stored after a job has come to its end: it is listed before the first change, so
+// that none can be refused.
 ghost use Rattle.std.specs.Prelude.{◌≡◌, ◌+◌, ◌≤◌, length, IfOk};
 ghost use Rattle.std.specs.FinMap as map;
 ghost use Rattle.job_types.specs.Forlopps.{all_records};
@@ -14,7 +15,8 @@ use plex_num::{Memory, Seq};
 use std::alloc::Global;
 use store_layout::Layout;
 
-/// The stores that the end of a job brings with it, and how many records go where the exchange begins anew.
+/// The stores that the end of a job brings with it, and how many records go where the exchange
+/// begins anew.
 #[derive(Drop)]
 pub struct Aftermath {
     pub stores: Seq<Write>,

@@ -3,7 +3,8 @@ ghost use Rattle.std.specs.Prelude.{◌≡◌, ◌+◌, ◌<◌, ◌^◌, false,
 ghost use Rattle.job_buffers.specs.Room.{room_at};
 ghost use Rattle.source_meaning.specs.Arrivals.{forlopp_for, is_due, next_after};
 ghost use Rattle.source_meaning.specs.State.{has_stopped};
-ghost use Rattle.run_books.specs.Accounts.{LetsArrive, TakesLine, TellsArrival, admitted, job_of, with_loss};
+ghost use Rattle.run_books.specs.Accounts.{LetsArrive, TakesLine, TellsArrival, admitted, job_of};
+ghost use Rattle.run_books.specs.Accounts.{with_loss};
 ghost use Rattle.run_books.specs.Lines.{coming_of, origin_of};
 
 use crate::books::Books;
@@ -17,8 +18,9 @@ use plex_num::Memory;
 use signal_file::{Line, LineKind};
 
 impl Books {
-    /// Lets the next line arrive, if it is due: true exactly where it is, and else nothing changes. No job may run, and the
-    /// last restart must not have come. Where memory is refused, nothing changes.
+    /// Lets the next line arrive, if it is due: true exactly where it is, and else nothing changes.
+    /// No job may run, and the last restart must not have come. Where memory is refused, nothing
+    /// changes.
     pub fn arrive(&mut self, exchange: &Exchange) -> Result<bool, Memory>
         requires nobody { self.old.running ≡ 0 }
         requires goes_on { has_stopped self.old.state ≡ false }
@@ -36,7 +38,8 @@ impl Books {
         Ok(true)
     }
 
-    /// The next line arrives, which must be there; it has this number, its forlopp comes from there, and this is its job.
+    /// The next line arrives, which must be there; it has this number, its forlopp comes from
+    /// there, and this is its job.
     fn take_line(&mut self, number: u32, kind: LineKind, job: Job) -> Result<(), Memory>
         requires { 0 < length self.old.state.lines }
         ensures { TakesLine number (origin_of kind) job self.old self.new result }
@@ -113,7 +116,8 @@ fn next_after(kind: LineKind, next: u64) -> u64
     }
 }
 
-/// The job of a line joins its list, unless its forlopp is dead: then the line is lost. There must be room for both.
+/// The job of a line joins its list, unless its forlopp is dead: then the line is lost. There must
+/// be room for both.
 fn admit(chains: &Chains, waiting: &mut Buffers, events: &mut EventLog, number: u32, job: Job)
     requires waiting { 0 < room_at job.level waiting.old.room }
     requires events { 0 < events.old.room }

@@ -23,9 +23,10 @@ use std::alloc::Global;
 use std::marker::Model;
 use std::mem;
 
-/// The books of an exchange: the lines that are left and those that have arrived, the jobs that wait, which forlopp holds
-/// what, the next new number, the events, how many jobs have ended, how many restarts came, how many jobs run, and after how
-/// many the run ends. Contracts see a state of the single run without its stored words, which stand beside the books.
+/// The books of an exchange: the lines that are left and those that have arrived, the jobs that
+/// wait, which forlopp holds what, the next new number, the events, how many jobs have ended, how
+/// many restarts came, how many jobs run, and after how many the run ends. Contracts see a state of
+/// the single run without its stored words, which stand beside the books.
 pub struct Books {
     pub(crate) schedule: Schedule,
     pub(crate) waiting: Buffers,
@@ -73,8 +74,8 @@ impl Model for Books {
 }
 
 impl Books {
-    /// The books before the first line has arrived: nobody waits, and nobody runs. `limit` is after how many jobs the run
-    /// ends. It takes no memory.
+    /// The books before the first line has arrived: nobody waits, and nobody runs. `limit` is after
+    /// how many jobs the run ends. It takes no memory.
     pub fn new(alloc: Global, lines: Seq<Line>, limit: u64) -> Books
         requires limit { limit ≤ MOST_JOBS }
         requires lines { length lines < 2 ^ 32 }
@@ -94,8 +95,8 @@ impl Books {
         }
     }
 
-    /// How the next job starts, if one may begin: `None` exactly where no job waits, where as many jobs have ended or run as
-    /// the limit says, or where the last restart has come.
+    /// How the next job starts, if one may begin: `None` exactly where no job waits, where as many
+    /// jobs have ended or run as the limit says, or where the last restart has come.
     pub fn peek(&self) -> Option<JobStart>
         ensures { result ≡ upcoming self.now }
     {
@@ -106,7 +107,8 @@ impl Books {
         Some(self.start_of(job.copy()))
     }
 
-    /// Takes the next job out, if one may begin, and counts it as running: `None` as `peek`, and then nothing changes.
+    /// Takes the next job out, if one may begin, and counts it as running: `None` as `peek`, and
+    /// then nothing changes.
     pub fn next_job(&mut self) -> Option<JobStart>
         ensures start { result ≡ upcoming self.old }
         ensures left { self.new ≡ after_start result self.old }
@@ -127,8 +129,8 @@ impl Books {
         JobStart { job, chain }
     }
 
-    /// How the run ends, if it does: after the last restart, else where nobody waits, else where as many jobs have ended as the
-    /// limit says. It is asked where no job runs and no line is due.
+    /// How the run ends, if it does: after the last restart, else where nobody waits, else where as
+    /// many jobs have ended as the limit says. It is asked where no job runs and no line is due.
     pub fn finished(&self) -> Option<Ending>
         ensures { option_map ending_of result ≡ ending_at self.now.limit self.now.state }
     {

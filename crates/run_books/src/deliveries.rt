@@ -8,8 +8,8 @@ use crate::event_log::EventLog;
 use job_buffers::Buffers;
 use job_types::{Job, SendTo, Sent};
 
-/// The sends of a job of this forlopp take effect, in order; it is the job by which so many have ended. What comes back is the
-/// next new number. There must be room for all of them.
+/// The sends of a job of this forlopp take effect, in order; it is the job by which so many have
+/// ended. What comes back is the next new number. There must be room for all of them.
 #[tactic(auto, using(crate::proofs::Traffic::delivers_begin, crate::proofs::Traffic::delivers_end, crate::proofs::Traffic::room_left))]
 pub fn deliver_all(
     waiting: &mut Buffers,

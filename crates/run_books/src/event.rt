@@ -40,7 +40,8 @@ pub enum ReportEvent {
     },
 }
 
-/// How a run ends: nobody waits any more, the last restart has come, or as many jobs have ended as may.
+/// How a run ends: nobody waits any more, the last restart has come, or as many jobs have ended as
+/// may.
 #[derive(Clone, Copy, PartialEq, Eq)]
 pub enum Ending {
     Done,

@@ -1,9 +1,14 @@
-// Events in few bytes: they are put behind one another, and read from the last byte of a list that is turned round.
-ghost use Rattle.std.specs.Prelude.{◌≡◌, ℕ, ◌+◌, ◌*◌, ◌%◌, ◌<◌, ◌≤◌, ◌^◌, ◌++◌, flat_map, length, reverse, option_to_list, vec_capacity, vec_len};
+// Events in few bytes: they are put behind one another, and read from the last byte of a list that
+// is turned round.
+ghost use Rattle.std.specs.Prelude.{◌≡◌, ℕ, ◌+◌, ◌*◌, ◌%◌, ◌<◌, ◌≤◌, ◌^◌, ◌++◌, flat_map, length};
+ghost use Rattle.std.specs.Prelude.{reverse, option_to_list, vec_capacity, vec_len};
 ghost use Rattle.std.specs.List.{AllByRecursion};
 ghost use Rattle.plex_limits.specs.declared.limits.TheConstants.{MOST_VALUES};
 ghost use Rattle.run_books.specs.Events.{event_of};
-ghost use Rattle.run_books.specs.Bytes.{IsNarrow, TakesFirst, after_event, after_kind, after_number, after_words, event_bytes, event_of_kind, fault_number, fault_of, first_event, long_at, number_bytes, word_at, words_at};
+ghost use Rattle.run_books.specs.Bytes.{IsNarrow, TakesFirst, after_event, after_kind};
+ghost use Rattle.run_books.specs.Bytes.{after_number, after_words, event_bytes, event_of_kind};
+ghost use Rattle.run_books.specs.Bytes.{fault_number, fault_of, first_event, long_at, number_bytes};
+ghost use Rattle.run_books.specs.Bytes.{word_at, words_at};
 
 use crate::event::{Faulty, ReportEvent};
 use job_types::Fault;

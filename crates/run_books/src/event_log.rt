@@ -1,5 +1,6 @@
 // The events so far, and those that are still to be told. Both keep them in few bytes.
-ghost use Rattle.std.specs.Prelude.{◌≡◌, ◌+◌, ◌-◌, ◌<◌, ◌≤◌, ◌^◌, ◌++◌, ◌∷◌, [], length, MatchOption, OnOk, IfOk, vec_capacity, vec_len};
+ghost use Rattle.std.specs.Prelude.{◌≡◌, ◌+◌, ◌-◌, ◌<◌, ◌≤◌, ◌^◌, ◌++◌, ◌∷◌, [], length};
+ghost use Rattle.std.specs.Prelude.{MatchOption, OnOk, IfOk, vec_capacity, vec_len};
 ghost use Rattle.run_books.specs.Events.{event_of};
 
 use crate::event::ReportEvent;
@@ -11,9 +12,9 @@ use std::marker::Model;
 /// How many bytes of events are kept that have been told.
 const KEPT_BYTES: usize = 262_144;
 
-/// The events so far, in order. Contracts see them, and for how many more there is room. Each number of an event takes a byte
-/// for each seven bits: a signal of small values takes some five bytes, one of eight values of 32 bits some 46, and no event
-/// more than 120.
+/// The events so far, in order. Contracts see them, and for how many more there is room. Each
+/// number of an event takes a byte for each seven bits: a signal of small values takes some five
+/// bytes, one of eight values of 32 bits some 46, and no event more than 120.
 #[derive(Drop)]
 pub struct EventLog {
     bytes: Vec<u8>,
@@ -99,7 +100,8 @@ impl EventLog {
     }
 }
 
-/// Events that are still to be told, in order, which is what contracts see. What has been told gives its memory back.
+/// Events that are still to be told, in order, which is what contracts see. What has been told
+/// gives its memory back.
 #[derive(Drop)]
 pub struct EventQueue {
     last_first: Vec<u8>,
@@ -139,7 +141,8 @@ impl EventQueue {
     }
 }
 
-/// Makes room for that many more bytes, and for an eighth more than there are, so that a long list is seldom moved.
+/// Makes room for that many more bytes, and for an eighth more than there are, so that a long list
+/// is seldom moved.
 fn grow(bytes: &mut Vec<u8>, more: usize) -> Result<(), Memory>
     ensures items { bytes.new.items ≡ bytes.old.items }
     ensures len { vec_len bytes.new ≡ vec_len bytes.old }

@@ -23,8 +23,8 @@ pub fn reserve_each(waiting: &mut Buffers, more: usize) -> Result<(), Memory>
     waiting.reserve(Level::D, more)
 }
 
-/// The forlopp, which is live, ends: its jobs and its records go, and its number dies. There must be room for the death and
-/// for the event.
+/// The forlopp, which is live, ends: its jobs and its records go, and its number dies. There must
+/// be room for the death and for the event.
 pub fn release(
     waiting: &mut Buffers,
     chains: &mut Chains,
@@ -52,8 +52,8 @@ pub fn release(
     });
 }
 
-/// The exchange begins anew: nobody waits, no record is held, and each number below the next new one is dead. There must be
-/// room for the event.
+/// The exchange begins anew: nobody waits, no record is held, and each number below the next new
+/// one is dead. There must be room for the event.
 pub fn begin_anew(
     waiting: &mut Buffers,
     chains: &mut Chains,

@@ -13,8 +13,8 @@ use crate::books::Books;
 use crate::parts::BookParts;
 use exchange_model::Exchange;
 
-/// The lines of a signal file that has no fault fit its exchange, so that the state before the first of them has arrived is
-/// valid. A text of at most 16 MiB has fewer than 2^32 of them.
+/// The lines of a signal file that has no fault fit its exchange, so that the state before the
+/// first of them has arrived is valid. A text of at most 16 MiB has fewer than 2^32 of them.
 pub fn lines_fit_their_exchange()
     ensures lines { OfEachFile (λ x _ lines. LinesFit x [] (map coming_of lines)) }
     ensures few { OfEachFile (λ _ text lines. length text ≤ 2 ^ 24 → length lines < 2 ^ 32) }

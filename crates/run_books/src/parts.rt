@@ -7,9 +7,10 @@ use signal_file::Line;
 use std::alloc::Global;
 use std::collections::HashMap;
 
-/// The parts of books of which no job runs: the jobs that wait; which forlopp holds what, and which numbers are dead; all lines,
-/// how many of them have arrived, the forlopps that those got, in their order, and the same by the numbers of the lines; the next
-/// new number; how many jobs have ended, how many restarts came, and after how many jobs the run ends; and the events so far.
+/// The parts of books of which no job runs: the jobs that wait; which forlopp holds what, and which
+/// numbers are dead; all lines, how many of them have arrived, the forlopps that those got, in
+/// their order, and the same by the numbers of the lines; the next new number; how many jobs have
+/// ended, how many restarts came, and after how many jobs the run ends; and the events so far.
 #[derive(Drop)]
 pub struct BookParts {
     pub buffers: Buffers,

@@ -20,12 +20,13 @@ use plex_num::{Memory, Seq};
 use store_layout::Layout;
 
 impl Books {
-    /// A job of this start retires, which left this: it counts as ended, its sends take effect in order, its chain becomes its
-    /// forlopp's, and a fault releases the forlopp or, where there is none, lets the exchange begin anew. The words get the
-    /// values that records and CLEAR variables begin with. A job must run, the forlopp must be none or a live number that was
-    /// drawn, and the words must let be stored what a release or a restart stores; that it is the job that has run longest is
-    /// for the caller to see to. All room is taken first: memory is the only reason for an error, and then books and words
-    /// stay as they were.
+    /// A job of this start retires, which left this: it counts as ended, its sends take effect in
+    /// order, its chain becomes its forlopp's, and a fault releases the forlopp or, where there is
+    /// none, lets the exchange begin anew. The words get the values that records and CLEAR
+    /// variables begin with. A job must run, the forlopp must be none or a live number that was
+    /// drawn, and the words must let be stored what a release or a restart stores; that it is the
+    /// job that has run longest is for the caller to see to. All room is taken first: memory is the
+    /// only reason for an error, and then books and words stay as they were.
     #[tactic(auto, using(crate::proofs::Settled::has_retired, crate::proofs::Written::stores_allowed))]
     pub fn retire<W: Words>(
         &mut self,
@@ -51,8 +52,8 @@ impl Books {
         Ok(())
     }
 
-    /// A job of this start retires in the books; what comes back are the stores that are to be made. Where memory is refused,
-    /// nothing changes.
+    /// A job of this start retires in the books; what comes back are the stores that are to be
+    /// made. Where memory is refused, nothing changes.
     fn settle(
         &mut self,
         exchange: &Exchange,
@@ -113,7 +114,8 @@ impl Books {
     }
 }
 
-/// The chain of a job is its forlopp's, if it has one, which then is live. There must be room for a chain.
+/// The chain of a job is its forlopp's, if it has one, which then is live. There must be room for a
+/// chain.
 fn keep_chain(chains: &mut Chains, forlopp: u64, chain: &Chain)
     requires room { 0 < chains.old.puts }
     requires live { forlopp ≢ 0 → is_dead chains.old.dead forlopp ≡ false }

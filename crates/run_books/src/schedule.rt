@@ -1,5 +1,6 @@
 // The lines of a signal file, and the forlopps that those got which have arrived.
-ghost use Rattle.std.specs.Prelude.{◌≡◌, ℕ, ◌<◌, ◌≤◌, [], length, map, nat_eq, slice_get, OnOk, OnErr, Some};
+ghost use Rattle.std.specs.Prelude.{◌≡◌, ℕ, ◌<◌, ◌≤◌, [], length, map, nat_eq, slice_get, OnOk};
+ghost use Rattle.std.specs.Prelude.{OnErr, Some};
 ghost use Rattle.std.specs.Option.{option_copied, option_map};
 ghost use Rattle.std.specs.HashMap.{get};
 ghost use Rattle.source_meaning.specs.Arrivals.{given_to};
@@ -11,7 +12,8 @@ use std::alloc::Global;
 use std::collections::HashMap;
 use std::marker::Model;
 
-/// The lines in order; the forlopps of those that have arrived, which are the first ones; and the same by their numbers.
+/// The lines in order; the forlopps of those that have arrived, which are the first ones; and the
+/// same by their numbers.
 pub struct Schedule {
     lines: Seq<Line>,
     given: Vec<u64>,
@@ -54,8 +56,8 @@ impl Schedule {
         }
     }
 
-    /// The schedule of these lines, the first of which have arrived and got these forlopps, which are also found by the numbers of
-    /// the lines.
+    /// The schedule of these lines, the first of which have arrived and got these forlopps, which
+    /// are also found by the numbers of the lines.
     pub fn from_parts(lines: Seq<Line>, given: Seq<u64>, numbers: HashMap<u32, u64>) -> Schedule
         requires within { length given ≤ length lines }
         requires numbers { AreFound (get nat_eq numbers) lines given }
@@ -99,7 +101,8 @@ impl Schedule {
         }
     }
 
-    /// The next line has arrived, which must be there, and got this forlopp. Where memory is refused, nothing changes.
+    /// The next line has arrived, which must be there, and got this forlopp. Where memory is
+    /// refused, nothing changes.
     pub fn arrive(&mut self, forlopp: u64) -> Result<(), Memory>
         requires { 0 < length self.old.lines }
         ensures { NextArrives self.old self.new forlopp result }
@@ -122,7 +125,8 @@ fn line_at(lines: &Seq<Line>, place: usize) -> &Line
     &lines.as_slice()[place]
 }
 
-/// Notes the forlopp of a line, unless one of its number is noted. Where memory is refused, nothing changes.
+/// Notes the forlopp of a line, unless one of its number is noted. Where memory is refused, nothing
+/// changes.
 fn note(numbers: &mut HashMap<u32, u64>, line: u32, forlopp: u64) -> Result<(), Memory>
     ensures ok { OnOk result
         (Notes (get nat_eq numbers.old) (get nat_eq numbers.new) line forlopp) }

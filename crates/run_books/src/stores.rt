@@ -1,9 +1,12 @@
-// The stores of a release and of a restart: they are listed before the first change, so that none can be refused.
-ghost use Rattle.std.specs.Prelude.{◌≡◌, ℕ, ◌+◌, ◌*◌, ◌<◌, ◌^◌, ◌++◌, true, map, length, slice_get, slice_set, IfOk, OnOk};
+// The stores of a release and of a restart: they are listed before the first change, so that none
+// can be refused.
+ghost use Rattle.std.specs.Prelude.{◌≡◌, ℕ, ◌+◌, ◌*◌, ◌<◌, ◌^◌, ◌++◌, true, map, length, slice_get};
+ghost use Rattle.std.specs.Prelude.{slice_set, IfOk, OnOk};
 ghost use Rattle.std.specs.List.{AllByRecursion};
 ghost use Rattle.job_types.specs.Touches.{stored};
 ghost use Rattle.machine_code.specs.Told.{told_all, told_more};
-ghost use Rattle.run_books.specs.Stores.{all_clear_stores, clear_of, clear_stores, field_stores, open_store, open_stores, touch_of};
+ghost use Rattle.run_books.specs.Stores.{all_clear_stores, clear_of, clear_stores, field_stores};
+ghost use Rattle.run_books.specs.Stores.{open_store, open_stores, touch_of};
 ghost use Rattle.store_layout.specs.Laid.{IsLayout};
 ghost use Rattle.run_books.specs.declared.stores.Write.{Write};
 

@@ -1,6 +1,7 @@
--- A run that comes to an end is on its way there after any number of instructions, and comes to the same end over other words that
--- answer its trace.
-use Rattle.std.proofs.Common.{◌≡◌, ℕ, zero, suc, List, [], ◌++◌, Option, Some, None, refl, sym, ap, ◌∙◌, subst, append_assoc}
+-- A run that comes to an end is on its way there after any number of instructions, and comes to the
+-- same end over other words that answer its trace.
+use Rattle.std.proofs.Common.{◌≡◌, ℕ, zero, suc, List, [], ◌++◌, Option, Some, None, refl, sym, ap}
+use Rattle.std.proofs.Common.{◌∙◌, subst, append_assoc}
 use Rattle.std.proofs.lemmas.List.{append-nil}
 use Rattle.std.proofs.lemmas.Option.{get_or_from_slice_get, slice_get_within}
 use Rattle.std.specs.Prelude.{IsSome, slice_get}
@@ -69,20 +70,25 @@ on_the_way (suc n) code p store end ends = still_goes code (alone n code p store
 pub run_front : (n : ℕ) (code : List Op) (p : Private) (store : List ℕ) (end : Machine) → Ends code (begun p store) end → TraceGrows (alone n code p store) end
 run_front n code p store end ends = trace_grows code (alone n code p store) end (on_the_way n code p store end ends)
 
-pub run_next : (n : ℕ) (code : List Op) (p : Private) (store : List ℕ) (end : Machine) → Ends code (begun p store) end → (alone n code p store).run.over ≡ None → CanGoOn code (alone n code p store) end
+pub run_next : (n : ℕ) (code : List Op) (p : Private) (store : List ℕ) (end : Machine) → Ends code (begun p store) end
+    → (alone n code p store).run.over ≡ None → CanGoOn code (alone n code p store) end
 run_next n code p store end ends runs = can_go_on code (alone n code p store) end ends.over runs (on_the_way n code p store end ends)
 
-pub run_over : (n : ℕ) (code : List Op) (p : Private) (store : List ℕ) (end : Machine) → Ends code (begun p store) end → IsSome (alone n code p store).run.over → alone n code p store ≡ end
+pub run_over : (n : ℕ) (code : List Op) (p : Private) (store : List ℕ) (end : Machine) → Ends code (begun p store) end
+    → IsSome (alone n code p store).run.over → alone n code p store ≡ end
 run_over n code p store end ends over = at_end code (alone n code p store) end over (on_the_way n code p store end ends)
 
 -- ## Over other words
 
-goes_framed : (words : List ℕ) (code : List Op) (m end : Machine) → Goes code m end → Answers words end.world.trace → Goes code (on_words words m) (on_words words end)
+goes_framed : (words : List ℕ) (code : List Op) (m end : Machine) → Goes code m end → Answers words end.world.trace
+    → Goes code (on_words words m) (on_words words end)
 goes_framed words code m n here told = here
 goes_framed words code m end (by_op op runs at allowed more) told =
     let grown = trace_grows code (machine_step op m) end more in
     let front = (answers_split (machine_step op m).world.trace grown.touches words (subst (Answers words) grown.is told)).0 in
-    by_op op runs at allowed (subst (λ k. Goes code k (on_words words end)) (sym (step_framed words op m front)) (goes_framed words code (machine_step op m) end more told))
+    by_op op runs at allowed (subst (λ k. Goes code k (on_words words end)) (sym (step_framed words op m front))
+    (goes_framed words code (machine_step op m) end more told))
 
-pub end_framed : (code : List Op) (p : Private) (store words : List ℕ) (end : Machine) → Ends code (begun p store) end → Answers words end.world.trace → Ends code (begun p words) (on_words words end)
+pub end_framed : (code : List Op) (p : Private) (store words : List ℕ) (end : Machine) → Ends code (begun p store) end
+    → Answers words end.world.trace → Ends code (begun p words) (on_words words end)
 end_framed code p store words end ends told = record { goes = goes_framed words code (begun p store) end ends.goes told; over = ends.over }

@@ -1,5 +1,6 @@
 -- The trace of a run tells its words.
-use Rattle.std.proofs.Common.{◌≡◌, ℕ, zero, suc, List, [], ◌∷◌, ◌++◌, Option, Some, None, refl, sym, ap, ◌∙◌, subst}
+use Rattle.std.proofs.Common.{◌≡◌, ℕ, zero, suc, List, [], ◌∷◌, ◌++◌, Option, Some, None, refl, sym}
+use Rattle.std.proofs.Common.{ap, ◌∙◌, subst}
 use Rattle.std.proofs.lemmas.List.{append-nil}
 use Rattle.std.specs.Prelude.{slice_index}
 use Rattle.job_types.specs.declared.outcome.Outcome.{Outcome}
@@ -12,7 +13,8 @@ use Rattle.machine_code.specs.declared.op.Op.{Op}
 use Rattle.source_meaning.specs.Traces.{Answers}
 use Rattle.source_meaning.proofs.Growing.{answers_append}
 use Rattle.machine_meaning.specs.Private.{Private}
-use Rattle.machine_meaning.specs.Machine.{Apart, Loads, Machine, Reach, Stores, op_at, reach, touched}
+use Rattle.machine_meaning.specs.Machine.{Apart, Loads, Machine, Reach, Stores, op_at, reach}
+use Rattle.machine_meaning.specs.Machine.{touched}
 use Rattle.run_laws.specs.Alone.{IsTold, alone, goes_on, makes_unless}
 
 -- the touch of an instruction that reaches so, over these words

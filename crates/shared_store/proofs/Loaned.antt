@@ -1,5 +1,6 @@
 -- The root's list of loans.
-use Rattle.std.proofs.Common.{◌≡◌, ◌≢◌, ℕ, ◌<◌, Bool, false, List, [], ◌∷◌, sym, refl, ap, ◌∙◌, subst, inl, inr, ⊎_elim, arith, eq-eqb, ne_eqb, if◌then◌else◌}
+use Rattle.std.proofs.Common.{◌≡◌, ◌≢◌, ℕ, ◌<◌, Bool, false, List, [], ◌∷◌, sym, refl, ap, ◌∙◌}
+use Rattle.std.proofs.Common.{subst, inl, inr, ⊎_elim, arith, eq-eqb, ne_eqb, if◌then◌else◌}
 use Rattle.std.proofs.lemmas.Bool.{or_parts, or_from}
 use mathlib.Core.Logic.{dite}
 use native.Mathlib.Decide.{ℕ_discrete}
@@ -10,7 +11,8 @@ use Rattle.shared_store.specs.Loans.{Has, Differ, lent_out, seen_by, fresh, with
 
 pub lent_out_none : (ls : List Lent) (l : Lent) (w : ℕ) → Has ls l → lent_out ls w ≡ false → may_write l.permit w ≡ false
 lent_out_none [] l w h e = absurd h
-lent_out_none (x ∷ xs) l w h e = ⊎_elim (λ (s : x ≡ l). subst (λ (z : Lent). may_write z.permit w ≡ false) s (or_parts (may_write x.permit w) (lent_out xs w) e).0)
+lent_out_none (x ∷ xs) l w h e = ⊎_elim (λ (s : x ≡ l). subst (λ (z : Lent). may_write z.permit w ≡ false) s
+    (or_parts (may_write x.permit w) (lent_out xs w) e).0)
     (λ (s : Has xs l). lent_out_none xs l w s (or_parts (may_write x.permit w) (lent_out xs w) e).1) h
 
 pub lent_out_all : (ls : List Lent) (w : ℕ) → ((l : Lent) → Has ls l → may_write l.permit w ≡ false) → lent_out ls w ≡ false
@@ -41,7 +43,9 @@ kept_out n (x ∷ xs) l h = let F : Bool → Type 0 = λ (b : Bool). Has (if b t
 pub kept_in : (n : ℕ) (ls : List Lent) (l : Lent) → Has ls l → l.number ≢ n → Has (without n ls) l
 kept_in n [] l h ne = absurd h
 kept_in n (x ∷ xs) l h ne = let F : Bool → Type 0 = λ (b : Bool). Has (if b then without n xs else x ∷ without n xs) l in dite (ℕ_discrete n x.number)
-    (λ (e : n ≡ x.number). subst F (sym (eq-eqb n x.number e)) (⊎_elim (λ (s : x ≡ l). absurd (ne (sym (ap (λ (z : Lent). z.number) s) ∙ sym e))) (λ (s : Has xs l). kept_in n xs l s ne) h))
+    (λ (e : n ≡ x.number). subst F (sym (eq-eqb n x.number e))
+    (⊎_elim (λ (s : x ≡ l). absurd (ne (sym (ap (λ (z : Lent). z.number) s) ∙ sym e)))
+    (λ (s : Has xs l). kept_in n xs l s ne) h))
     (λ (d : n ≢ x.number). subst F (sym (ne_eqb n x.number d)) (⊎_elim (λ (s : x ≡ l). inl s) (λ (s : Has xs l). inr (kept_in n xs l s ne)) h))
 
 pub Apart-sym : (p q : Permit) → Apart p q → Apart q p

@@ -1,5 +1,6 @@
 -- A table in which nothing is lent meets the rule.
-use Rattle.std.proofs.Common.{◌≡◌, ℕ, zero, suc, ◌<◌, ◌^◌, List, [], ◌∷◌, length, get_or, flat_map, sym, refl, ◌∙◌, subst, lit<}
+use Rattle.std.proofs.Common.{◌≡◌, ℕ, zero, suc, ◌<◌, ◌^◌, List, [], ◌∷◌, length, get_or, flat_map}
+use Rattle.std.proofs.Common.{sym, refl, ◌∙◌, subst, lit<}
 use Rattle.std.proofs.lemmas.List.{length-map}
 use mathlib.Core.Option.{some, some-ne-none}
 use lib.ListN.{get_elem?}
@@ -13,28 +14,40 @@ use Rattle.shared_store.proofs.Places.{row_wide, row_read, row_small}
 use Rattle.shared_store.proofs.Views.{loan-not-root}
 
 -- the table at the start
-pub opens : (words values : List ℕ) (slots : List (Unit {0})) (free : ℕ) → words ≡ flat_map (line free) (0 ∷ values) → length slots ≡ free → ((w : ℕ) → get_or values w 0 < 2 ^ 32)
+pub opens : (words values : List ℕ) (slots : List (Unit {0})) (free : ℕ) → words ≡ flat_map (line free) (0 ∷ values)
+    → length slots ≡ free → ((w : ℕ) → get_or values w 0 < 2 ^ 32)
     → Lending (opening words slots (Root (record { values = values; loans = [] })))
-opens words values slots free is counted small = subst (λ (ws : List ℕ). Lending (opening ws slots (Root (record { values = values; loans = [] })))) (sym is) record {
-  top = record { values = values; loans = [] };
-  listing = record { differ = tt; distinct = λ a b s. absurd s; apart = λ a b s. absurd s; long = λ a s. absurd s; based = λ a s. absurd s; small = small; small_base = λ a s. absurd s };
-  seats = record {
-    root = 0;
-    at_root = refl;
-    one_root = first_only;
-    listed = λ j i e. absurd (no_loan j i e);
-    one_seat = λ j k a b ja kb n. absurd (no_loan j a ja);
-    live = λ a s. absurd s;
-    sound = λ j i e. absurd (no_loan j i e);
-  };
-  words = subst (λ (n : ℕ). AreShared n (record { values = values; loans = [] }) (Root (record { values = values; loans = [] }) ∷ []) (flat_map (line free) (0 ∷ values))) (sym (length-map slots some ∙ counted)) record {
-    wide = row_wide free values;
-    first = refl;
-    fit = row_small free (0 ∷ values) zero_first;
-    mine = λ j i e. absurd (no_loan j i e);
-    others = λ w out lt. row_read free values w;
-  };
-}
+opens words values slots free is counted small = subst
+    (λ (ws : List ℕ). Lending (opening ws slots (Root (record { values = values; loans = [] })))) (sym is) record {
+      top = record { values = values; loans = [] };
+      listing = record {
+        differ = tt;
+        distinct = λ a b s. absurd s;
+        apart = λ a b s. absurd s;
+        long = λ a s. absurd s;
+        based = λ a s. absurd s;
+        small = small;
+        small_base = λ a s. absurd s;
+      };
+      seats = record {
+        root = 0;
+        at_root = refl;
+        one_root = first_only;
+        listed = λ j i e. absurd (no_loan j i e);
+        one_seat = λ j k a b ja kb n. absurd (no_loan j a ja);
+        live = λ a s. absurd s;
+        sound = λ j i e. absurd (no_loan j i e);
+      };
+      words = subst (λ (n : ℕ). AreShared n (record { values = values; loans = [] })
+          (Root (record { values = values; loans = [] }) ∷ []) (flat_map (line free) (0 ∷ values)))
+          (sym (length-map slots some ∙ counted)) record {
+            wide = row_wide free values;
+            first = refl;
+            fit = row_small free (0 ∷ values) zero_first;
+            mine = λ j i e. absurd (no_loan j i e);
+            others = λ w out lt. row_read free values w;
+          };
+    }
   where
     first_only : (j : ℕ) (u : Top) → get_elem? (Root (record { values = values; loans = [] }) ∷ []) j ≡ some (Root u) → j ≡ 0
     first_only zero u e = refl

@@ -1,5 +1,7 @@
 -- Where the cells stand in the table.
-use Rattle.std.proofs.Common.{◌≡◌, ℕ, zero, suc, ◌+◌, ◌*◌, ◌<◌, ◌^◌, List, [], ◌∷◌, ◌++◌, length, get_or, replicate, flat_map, sym, refl, ap, ◌∙◌, subst, arith, add-one, lit<, get_or-append-add}
+use Rattle.std.proofs.Common.{◌≡◌, ℕ, zero, suc, ◌+◌, ◌*◌, ◌<◌, ◌^◌, List, [], ◌∷◌, ◌++◌, length}
+use Rattle.std.proofs.Common.{get_or, replicate, flat_map, sym, refl, ap, ◌∙◌, subst, arith}
+use Rattle.std.proofs.Common.{add-one, lit<, get_or-append-add}
 use Rattle.std.proofs.lemmas.List.{length-append, length-replicate}
 use Rattle.std.proofs.Math.Nat.{suc-mul}
 use Rattle.std.proofs.Math.Nat.{zero-mul}
@@ -21,7 +23,8 @@ place_before free u w lt = let more : u + 1 < w + 1 = omega arith in mul-lt-mul_
 -- the table's word 0 is no cell's
 pub place_later : (free w : ℕ) → 0 < place free w
 unfolding place
-place_later free w = let one : 0 < 1 = omega arith in let least : 0 * (free + 1) < (w + 1) * (free + 1) = mul-lt-mul_of_pos_right (some w) (some free) in omega (arith, least)
+place_later free w = let one : 0 < 1 = omega arith in let least : 0 * (free + 1)
+    < (w + 1) * (free + 1) = mul-lt-mul_of_pos_right (some w) (some free) in omega (arith, least)
 
 pub place_same : (free u w : ℕ) → place free u ≡ place free w → u ≡ w
 unfolding place
@@ -48,7 +51,8 @@ module _ (free : ℕ) where
   read [] i = refl
   read (v ∷ vs) zero = ap (λ (n : ℕ). get_or (flat_map (line free) (v ∷ vs)) n 0) (zero-mul (free + 1))
   read (v ∷ vs) (suc i) =
-      let on : suc i * (free + 1) ≡ length (line free v) + i * (free + 1) = let here = line_long v in let more = suc-mul i (free + 1) in omega (arith, here, more) in
+      let on : suc i * (free + 1) ≡ length (line free v) + i * (free + 1) =
+      let here = line_long v in let more = suc-mul i (free + 1) in omega (arith, here, more) in
       ap (λ (n : ℕ). get_or (flat_map (line free) (v ∷ vs)) n 0) on ∙ (get_or-append-add (line free v) (flat_map (line free) vs) (i * (free + 1)) 0 ∙ read vs i)
 
   pub row_read : (vs : List ℕ) (w : ℕ) → get_or (flat_map (line free) (0 ∷ vs)) (place free w) 0 ≡ get_or vs w 0
@@ -66,4 +70,5 @@ small_line (suc free) v f (suc k) = small_line free 0 (lit< tt) k
 
 pub row_small : (free : ℕ) (vs : List ℕ) → ((w : ℕ) → get_or vs w 0 < 2 ^ 32) → (k : ℕ) → get_or (flat_map (line free) vs) k 0 < 2 ^ 32
 row_small free [] small k = small k
-row_small free (v ∷ vs) small k = small_append (line free v) (flat_map (line free) vs) (small_line free v (small zero)) (row_small free vs (λ w. small (suc w))) k
+row_small free (v ∷ vs) small k = small_append (line free v) (flat_map (line free) vs) (small_line free v (small zero))
+    (row_small free vs (λ w. small (suc w))) k

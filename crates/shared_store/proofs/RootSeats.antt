@@ -1,5 +1,7 @@
--- The seats after the root's view has changed: alone, with a new loan, or with a loan that came back.
-use Rattle.std.proofs.Common.{◌≡◌, ◌≢◌, ◌⊎◌, ℕ, ◌<◌, List, [], ◌∷◌, ◌++◌, length, set, sym, refl, ap, ◌∙◌, subst, inl, inr, ⊎_elim, arith}
+-- The seats after the root's view has changed: alone, with a new loan, or with a loan that came
+-- back.
+use Rattle.std.proofs.Common.{◌≡◌, ◌≢◌, ◌⊎◌, ℕ, ◌<◌, List, [], ◌∷◌, ◌++◌, length, set, sym, refl}
+use Rattle.std.proofs.Common.{ap, ◌∙◌, subst, inl, inr, ⊎_elim, arith}
 use mathlib.Core.Option.{some}
 use lib.ListN.{get_elem?}
 use Rattle.atomic_table.proofs.Lists.{at_set, set_else, at_longer, at_last}
@@ -13,7 +15,8 @@ use Rattle.shared_store.specs.Loans.{Has, without}
 use Rattle.shared_store.specs.Seats.{hold_of}
 use Rattle.shared_store.specs.Rule.{Holds, Seats}
 use Rattle.shared_store.proofs.Loaned.{kept_out, kept_in}
-use Rattle.shared_store.proofs.Views.{same_loan, loan-not-root, root-not-spent, loan-not-spent, set_at, snoc_at}
+use Rattle.shared_store.proofs.Views.{same_loan, loan-not-root, root-not-spent, loan-not-spent}
+use Rattle.shared_store.proofs.Views.{set_at, snoc_at}
 
 -- a step of the root, whose view becomes t'
 module _ (views : List View) (id : ℕ) (t t' : Top) (q : Seats t views) (at : get_elem? views id ≡ some (Root t)) where
@@ -28,7 +31,8 @@ module _ (views : List View) (id : ℕ) (t t' : Top) (q : Seats t views) (at : g
       (λ (c : (j ≢ id) × Holds views j i). c.1) (at_set views id j (Root t') (Loan i) e)
 
   pub loan_stays : (j : ℕ) (i : Hold) → Holds views j i → Holds after j i
-  loan_stays j i e = set_else views id j (Root t') (λ (d : j ≡ id). loan-not-root i t (sym e ∙ subst (λ (n : ℕ). get_elem? views n ≡ some (Root t)) (sym d) at)) ∙ e
+  loan_stays j i e = set_else views id j (Root t')
+      (λ (d : j ≡ id). loan-not-root i t (sym e ∙ subst (λ (n : ℕ). get_elem? views n ≡ some (Root t)) (sym d) at)) ∙ e
 
   pub root_here : get_elem? after id ≡ some (Root t')
   root_here = set_at views id (Root t) (Root t') at
@@ -49,7 +53,9 @@ module _ (views : List View) (id : ℕ) (t t' : Top) (q : Seats t views) (at : g
   }
 
   -- one more loan
-  module _ (h : Hold) (fits : t'.loans ≡ h.lent ∷ t.loans) (above : (a : Lent) → Has t.loans a → a.number < h.lent.number) (ok : Sound h.lent.permit h.lent.base h.touches) where
+  module _ (h : Hold) (fits : t'.loans ≡ h.lent ∷ t.loans)
+      (above : (a : Lent) → Has t.loans a → a.number < h.lent.number)
+      (ok : Sound h.lent.permit h.lent.base h.touches) where
     abbrev pub longer : List View
     longer = after ++ Loan h ∷ []
 
@@ -69,13 +75,16 @@ module _ (views : List View) (id : ℕ) (t t' : Top) (q : Seats t views) (at : g
       at_root = at_longer after (Loan h ∷ []) id (Root t') root_here;
       one_root = λ j u e. ⊎_elim (λ (c : get_elem? after j ≡ some (Root u)). only_root j u c)
           (λ (c : (j ≡ length after) × (Loan h ≡ Root u)). absurd (loan-not-root h u (ap (λ (v : View). some v) c.1))) (snoc_at after (Loan h) (Root u) j e);
-      listed = λ j i e. ⊎_elim (λ (c : Holds views j i). more i.lent (inr (q.listed j i c))) (λ (c : (j ≡ length after) × (h ≡ i)). more i.lent (inl (ap (λ (z : Hold). z.lent) c.1)))
+      listed = λ j i e. ⊎_elim (λ (c : Holds views j i). more i.lent (inr (q.listed j i c)))
+          (λ (c : (j ≡ length after) × (h ≡ i)). more i.lent (inl (ap (λ (z : Hold). z.lent) c.1)))
           (lent_was j i e);
       one_seat = λ j k a b ja kb n. ⊎_elim
           (λ (c : Holds views j a). ⊎_elim (λ (d : Holds views k b). q.one_seat j k a b c d n)
-          (λ (d : (k ≡ length after) × (h ≡ b)). let lo = old_number j a c in let hi : h.lent.number ≡ b.lent.number = ap (λ (z : Hold). z.lent.number) d.1 in absurd (omega arith)) (lent_was k b kb))
+          (λ (d : (k ≡ length after) × (h ≡ b)). let lo = old_number j a c in let hi : h.lent.number
+          ≡ b.lent.number = ap (λ (z : Hold). z.lent.number) d.1 in absurd (omega arith)) (lent_was k b kb))
           (λ (c : (j ≡ length after) × (h ≡ a)). ⊎_elim
-          (λ (d : Holds views k b). let lo = old_number k b d in let hi : h.lent.number ≡ a.lent.number = ap (λ (z : Hold). z.lent.number) c.1 in absurd (omega arith))
+          (λ (d : Holds views k b). let lo = old_number k b d in let hi : h.lent.number
+          ≡ a.lent.number = ap (λ (z : Hold). z.lent.number) c.1 in absurd (omega arith))
           (λ (d : (k ≡ length after) × (h ≡ b)). c.0 ∙ sym d.0) (lent_was k b kb)) (lent_was j a ja);
       live = λ a s. ⊎_elim (λ (c : h.lent ≡ a). (length after, h, at_last after (Loan h) (length after) refl, c))
           (λ (c : Has t.loans a). let l = q.live a c in (l.0, l.1, at_longer after (Loan h ∷ []) l.0 (Loan l.1) (loan_stays l.0 l.1 l.2), l.3))
@@ -93,14 +102,16 @@ module _ (views : List View) (id : ℕ) (t t' : Top) (q : Seats t views) (at : g
     held_before = loan_was other h held
 
     pub stayed : (j : ℕ) (i : Hold) → Holds fewer j i → Holds views j i × (j ≢ other)
-    stayed j i e = ⊎_elim (λ (c : (j ≡ other) × (Spent ≡ Loan i)). absurd (loan-not-spent i c.1)) (λ (c : (j ≢ other) × Holds after j i). (loan_was j i c.1, c.0))
+    stayed j i e = ⊎_elim (λ (c : (j ≡ other) × (Spent ≡ Loan i)). absurd (loan-not-spent i c.1))
+        (λ (c : (j ≢ other) × Holds after j i). (loan_was j i c.1, c.0))
         (at_set after other j Spent (Loan i) e)
 
     pub seated_fewer : Seats t' fewer
     seated_fewer = record {
       root = id;
       at_root = set_else after other id Spent (λ (e : id ≡ other). ne (sym e)) ∙ root_here;
-      one_root = λ j u e. ⊎_elim (λ (c : (j ≡ other) × (Spent ≡ Root u)). absurd (root-not-spent u c.1)) (λ (c : (j ≢ other) × (get_elem? after j ≡ some (Root u))). only_root j u c.1)
+      one_root = λ j u e. ⊎_elim (λ (c : (j ≡ other) × (Spent ≡ Root u)). absurd (root-not-spent u c.1))
+          (λ (c : (j ≢ other) × (get_elem? after j ≡ some (Root u))). only_root j u c.1)
           (at_set after other j Spent (Root u) e);
       listed = λ j i e. let b = stayed j i e in subst (λ (ls : List Lent). Has ls i.lent) (sym same)
           (kept_in h.lent.number t.loans i.lent (q.listed j i b.0) (λ n. b.1 (q.one_seat j other i h b.0 held_before n)));

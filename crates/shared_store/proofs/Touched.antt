@@ -1,5 +1,7 @@
 -- What a list of touches leaves in the words.
-use Rattle.std.proofs.Common.{◌≡◌, ℕ, zero, suc, ◌<◌, ◌^◌, true, false, List, [], ◌∷◌, ◌++◌, length, get_or, set, sym, refl, ◌∙◌, subst, arith, length-set, get_or-set_other}
+use Rattle.std.proofs.Common.{◌≡◌, ℕ, zero, suc, ◌<◌, ◌^◌, true, false, List, [], ◌∷◌, ◌++◌, length}
+use Rattle.std.proofs.Common.{get_or, set, sym, refl, ◌∙◌, subst, arith, length-set}
+use Rattle.std.proofs.Common.{get_or-set_other}
 use Rattle.std.proofs.lemmas.Bool.{or_right, both_ways}
 use Rattle.machine_code.specs.declared.permit.Permit.{Permit}
 use Rattle.job_types.specs.declared.touch.Touch.{Touch}
@@ -32,7 +34,8 @@ pub stored-snoc : (ts : List Touch) (vs : List ℕ) (t : Touch) → stored vs (t
 stored-snoc ts vs t = stored-append ts (t ∷ []) vs
 
 -- a word that two lists agree on, they agree on after the same touches
-pub stored_agree : (ts : List Touch) (a b : List ℕ) (w : ℕ) → length a ≡ length b → get_or a w 0 ≡ get_or b w 0 → get_or (stored a ts) w 0 ≡ get_or (stored b ts) w 0
+pub stored_agree : (ts : List Touch) (a b : List ℕ) (w : ℕ) → length a ≡ length b → get_or a w 0 ≡ get_or b w 0
+    → get_or (stored a ts) w 0 ≡ get_or (stored b ts) w 0
 stored_agree [] a b w l e = e
 stored_agree (Load u x ∷ ts) a b w l e = stored_agree ts a b w l e
 stored_agree (Store u x ∷ ts) a b w l e =
@@ -43,9 +46,12 @@ pub stored_else : (p : Permit) (ts : List Touch) (vs a : List ℕ) (w : ℕ) →
 stored_else p [] vs a w s out = refl
 stored_else p (Load u x ∷ ts) vs a w s out = stored_else p ts vs a w s.3 out
 stored_else p (Store u x ∷ ts) vs a w s out =
-    stored_else p ts (set vs u x) (set a u x) w s.3 out ∙ get_or-set_other a u w x 0 (λ e. both_ways (may_write p u) (subst (λ (k : ℕ). may_write p k ≡ false) e out) s.0)
+    stored_else p ts (set vs u x) (set a u x) w s.3 out
+    ∙ get_or-set_other a u w x 0 (λ e. both_ways (may_write p u) (subst (λ (k : ℕ). may_write p k ≡ false) e out)
+    s.0)
 
-pub stored_small : (p : Permit) (ts : List Touch) (vs a : List ℕ) → Sound p vs ts → ((w : ℕ) → get_or a w 0 < 2 ^ 32) → (w : ℕ) → get_or (stored a ts) w 0 < 2 ^ 32
+pub stored_small : (p : Permit) (ts : List Touch) (vs a : List ℕ) → Sound p vs ts → ((w : ℕ) → get_or a w 0 < 2 ^ 32)
+    → (w : ℕ) → get_or (stored a ts) w 0 < 2 ^ 32
 stored_small p [] vs a s h = h
 stored_small p (Load u x ∷ ts) vs a s h = stored_small p ts vs a s.3 h
 stored_small p (Store u x ∷ ts) vs a s h = stored_small p ts (set vs u x) (set a u x) s.3 (set_small a u x s.2 h)

@@ -1,8 +1,10 @@
 -- The root's list of loans, and what a loan's seat sees.
 --
--- A loan is told from the others by its number. The root has the newest loan first, which nobody relies on. What
--- a seat sees is a list of values again, so that a run over the seat starts from one and ends in one.
-use Rattle.std.specs.Prelude.{◌≡◌, ◌≢◌, ◌⊎◌, ℕ, suc, ◌+◌, Bool, false, ◌==◌, ◌||◌, if◌then◌else◌, List, [], ◌∷◌, ◌++◌, slice_set}
+-- A loan is told from the others by its number. The root has the newest loan first, which nobody
+-- relies on. What a seat sees is a list of values again, so that a run over the seat starts from
+-- one and ends in one.
+use Rattle.std.specs.Prelude.{◌≡◌, ◌≢◌, ◌⊎◌, ℕ, suc, ◌+◌, Bool, false, ◌==◌, ◌||◌, if◌then◌else◌}
+use Rattle.std.specs.Prelude.{List, [], ◌∷◌, ◌++◌, slice_set}
 use Rattle.job_types.specs.declared.job.JobStart.{JobStart}
 use Rattle.machine_code.specs.declared.permit.Permit.{Permit}
 use Rattle.job_types.specs.declared.touch.Touch.{Touch}
@@ -82,6 +84,7 @@ taken_back t h = record {
 abbrev pub with_value : Top → ℕ → ℕ → Top
 with_value t w v = record t { values = slice_set t.values w v }
 
--- no word that a loan of the list may write is in the permit, and none that the permit lets be written is in a loan's
+-- no word that a loan of the list may write is in the permit, and none that the permit lets be
+-- written is in a loan's
 abbrev pub FitsBeside : List Lent → Permit → Type 0
 FitsBeside ls p = (l : Lent) → Has ls l → Apart l.permit p

@@ -1,8 +1,8 @@
 -- The rule of the shared words, and what its steps tell.
 --
--- Each cell has a place among the table's words, and the table's word 0 is none of them. The rule is in three parts: of
--- the root's list alone, of the list and the seats, and of the words. A seat that was joined into the root is `Spent`,
--- and the rule says nothing of it.
+-- Each cell has a place among the table's words, and the table's word 0 is none of them. The rule
+-- is in three parts: of the root's list alone, of the list and the seats, and of the words. A seat
+-- that was joined into the root is `Spent`, and the rule says nothing of it.
 use Rattle.std.specs.Prelude.{◌≡◌, ◌≢◌, ℕ, ◌<◌, ◌^◌, true, false, List, length, slice_index}
 use mathlib.Core.Option.{some}
 use lib.ListN.{get_elem?}
@@ -18,7 +18,8 @@ use Rattle.shared_store.specs.declared.view.View.{View}
 use Rattle.shared_store.specs.declared.view.View.TheVariants.{Root, Loan, Spent}
 use Rattle.shared_store.specs.Places.{place}
 use Rattle.shared_store.specs.Sound.{Sound}
-use Rattle.shared_store.specs.Loans.{Has, Differ, lent_out, lender, borrower, current, touched, taken_back, with_value}
+use Rattle.shared_store.specs.Loans.{Has, Differ, lent_out, lender, borrower, current, touched}
+use Rattle.shared_store.specs.Loans.{taken_back, with_value}
 
 -- a table as the rule sees it: its words and the views of its seats
 abbrev pub St : Type 0
@@ -32,8 +33,9 @@ Sat = Me (Unit {0}) View
 abbrev pub Holds : List View → ℕ → Hold → Type 0
 Holds views j h = get_elem? views j ≡ some (Loan h)
 
--- The root's list: the loans' numbers differ, a loan is known by its number, no two loans meet in a word that one of them may write,
--- a loan's words still have its base values in the root's view, and all values are below 2^32, one for each cell.
+-- The root's list: the loans' numbers differ, a loan is known by its number, no two loans meet in a
+-- word that one of them may write, a loan's words still have its base values in the root's view,
+-- and all values are below 2^32, one for each cell.
 pub record Listing (t : Top) : Type 0 where
   pub differ : Differ t.loans
   pub distinct : (a b : Lent) → Has t.loans a → Has t.loans b → a.number ≡ b.number → a ≡ b
@@ -45,8 +47,8 @@ pub record Listing (t : Top) : Type 0 where
   pub small : (w : ℕ) → slice_index t.values w < 2 ^ 32
   pub small_base : (a : Lent) → Has t.loans a → (w : ℕ) → slice_index a.base w < 2 ^ 32
 
--- The list and the seats: there is one root, its list has the loan of each seat and of no other, no two seats have one loan,
--- and each seat's touches are sound.
+-- The list and the seats: there is one root, its list has the loan of each seat and of no other, no
+-- two seats have one loan, and each seat's touches are sound.
 pub record Seats (t : Top) (views : List View) : Type 0 where
   pub root : ℕ
   pub at_root : get_elem? views root ≡ some (Root t)
@@ -57,8 +59,8 @@ pub record Seats (t : Top) (views : List View) : Type 0 where
   pub live : (a : Lent) → Has t.loans a → (j : ℕ) × (h : Hold) × Holds views j h × (h.lent ≡ a)
   pub sound : (j : ℕ) (h : Hold) → Holds views j h → Sound h.lent.permit h.lent.base h.touches
 
--- The words: the first is 0, all are below 2^32, a word that a loan may write has what that loan's seat sees,
--- and any other has the root's value. So many words stay free behind each cell.
+-- The words: the first is 0, all are below 2^32, a word that a loan may write has what that loan's
+-- seat sees, and any other has the root's value. So many words stay free behind each cell.
 pub record AreShared (free : ℕ) (t : Top) (views : List View) (words : List ℕ) : Type 0 where
   pub wide : length words ≡ place free (length t.values)
   pub first : slice_index words 0 ≡ 0

@@ -42,7 +42,8 @@ abbrev pub hold_of : View → Hold
 hold_of (Loan h) = h
 hold_of _ = borrower no_start no_permit (unlent [])
 
--- the seat of a loan holds no slot of the table, has one base value for each cell, and its touches are sound
+-- the seat of a loan holds no slot of the table, has one base value for each cell, and its touches
+-- are sound
 pub record IsJobSeat (table : TableId) (me : Me (Unit {0}) View) : Type 0 where
   pub loan : me ≡ (Loan (hold_of me.0), [])
   pub cells : place table.slots (length (hold_of me.0).lent.base) ≡ table.words

@@ -15,7 +15,8 @@ pub fn one_loan_ends_alone()
         Has (without n ls) l ↔ (Has ls l × (l.number ≢ n)) }
 {}
 
-/// The root may read a word exactly where no loan's permit lets it be written, and store it exactly where none lets it be read or written.
+/// The root may read a word exactly where no loan's permit lets it be written, and store it exactly
+/// where none lets it be read or written.
 pub fn the_root_may_touch_what_no_loan_may()
     ensures read { (ls : List Lent) (w : ℕ) →
         (lent_out ls w ≡ false) ↔ ((l : Lent) → Has ls l → may_write l.permit w ≡ false) }

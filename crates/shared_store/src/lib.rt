@@ -1,10 +1,12 @@
-// The stored data of running jobs: words in an atomic table, whose rule lends each word to the jobs that may touch it.
+// The stored data of running jobs: words in an atomic table, whose rule lends each word to the jobs
+// that may touch it.
 //
-// What goes in: the words of the exchange, and for each job its start and its permit. What comes out: a `SharedStore`
-// that threads share, the one `RootSeat` of the dispatcher, and a `JobSeat` for each loan. The runner of a job stands
-// on the contracts of `load` and `store`: a seat finds its own last store or the value that was lent, whatever other
-// seats do. The dispatcher stands on those of `lend`, `take_back`, `root_load` and `root_store`.
-// It knows no instruction, no cell's name and no thread, and does not say when a step happens.
+// What goes in: the words of the exchange, and for each job its start and its permit. What comes
+// out: a `SharedStore` that threads share, the one `RootSeat` of the dispatcher, and a `JobSeat`
+// for each loan. The runner of a job stands on the contracts of `load` and `store`: a seat finds
+// its own last store or the value that was lent, whatever other seats do. The dispatcher stands on
+// those of `lend`, `take_back`, `root_load` and `root_store`. It knows no instruction, no cell's
+// name and no thread, and does not say when a step happens.
 #![tactic(auto)]
 
 mod crossing;

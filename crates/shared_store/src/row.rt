@@ -1,4 +1,5 @@
-// How the cells of a store lie in its table: in a store of few cells each stands on a line of its own.
+// How the cells of a store lie in its table: in a store of few cells each stands on a line of its
+// own.
 ghost use Rattle.std.specs.Prelude.{◌≡◌, ℕ, ◌<◌, ◌^◌, ◌∷◌, ◌++◌, flat_map, slice_index, IfOk};
 ghost use Rattle.shared_store.specs.Places.{line};
 
@@ -10,7 +11,8 @@ const LINE_WORDS: usize = 8;
 /// The cells of the largest store in which each stands on a line of its own.
 const MOST_APART: usize = 4_096;
 
-/// How many words stay free behind each of so many cells: the rest of a line, or none where there are many cells.
+/// How many words stay free behind each of so many cells: the rest of a line, or none where there
+/// are many cells.
 pub(crate) fn free_words(cells: usize) -> usize
     ensures { result < 8 }
 {
@@ -21,7 +23,8 @@ pub(crate) fn free_words(cells: usize) -> usize
     }
 }
 
-/// The words of the table: a 0, and then the words of the cells, each with so many free words behind it, which are 0.
+/// The words of the table: a 0, and then the words of the cells, each with so many free words
+/// behind it, which are 0.
 pub(crate) fn table_row(alloc: Global, words: &[u32], free: usize) -> Result<Vec<u64>, AllocError>
     ensures items { IfOk result (λ row. row.items ≡ flat_map (line free) (0 ∷ words.now)) }
     ensures fit { IfOk result (λ row. (k : ℕ) → slice_index words.now k < 2 ^ 32) }

@@ -4,7 +4,8 @@ use crate::view::View;
 use atomic_table::Seat;
 use std::marker::Model;
 
-/// The seat of a loan, by which one job touches the words that it was lent. Contracts see the store that it is of, and what it knows.
+/// The seat of a loan, by which one job touches the words that it was lent. Contracts see the store
+/// that it is of, and what it knows.
 #[derive(Drop)]
 pub struct JobSeat {
     pub(crate) seat: Seat<(), View>,
@@ -24,8 +25,8 @@ impl Model for JobSeat {
 }
 
 impl JobSeat {
-    /// What the touches of every seat are: each load found the seat's own last store or the base value, and each touch kept the permit.
-    /// It touches no word.
+    /// What the touches of every seat are: each load found the seat's own last store or the base
+    /// value, and each touch kept the permit. It touches no word.
     pub fn knows(&self)
         ensures { Sound self.now.1.lent.permit self.now.1.lent.base self.now.1.touches }
     {
@@ -33,7 +34,8 @@ impl JobSeat {
     }
 }
 
-/// The root's seat, of which there is one for each store. Contracts see the store that it is of, and what it knows.
+/// The root's seat, of which there is one for each store. Contracts see the store that it is of,
+/// and what it knows.
 #[derive(Drop)]
 pub struct RootSeat {
     pub(crate) seat: Seat<(), View>,

@@ -2,7 +2,8 @@ ghost use Rattle.std.specs.Prelude.{◌≡◌, ◌<◌, true, false, length, sli
 ghost use Rattle.machine_code.specs.Permits.{may_read, may_write};
 ghost use Rattle.job_types.specs.declared.touch.Touch.TheVariants.{Load, Store};
 ghost use Rattle.shared_store.specs.Places.{place};
-ghost use Rattle.shared_store.specs.Loans.{current, touched, lender, borrower, taken_back, lent_out, seen_by, FitsBeside, unlent, with_value};
+ghost use Rattle.shared_store.specs.Loans.{current, touched, lender, borrower, taken_back};
+ghost use Rattle.shared_store.specs.Loans.{lent_out, seen_by, FitsBeside, unlent, with_value};
 
 use crate::row::{free_words, table_row};
 use crate::rule::{Cut, Look, Put, Rejoin, RootLook, RootPut, Rule, Terms};
@@ -15,7 +16,8 @@ use plex_num::{Memory, Seq};
 use std::alloc::{AllocError, Global};
 use std::marker::{Brand, Model};
 
-/// The words that jobs share. Contracts see which store it is; what its words are is seen through the seats.
+/// The words that jobs share. Contracts see which store it is; what its words are is seen through
+/// the seats.
 #[derive(Drop)]
 pub struct SharedStore {
     table: Table<(), View, Seq<u32>, Rule, Global>,
@@ -48,8 +50,9 @@ impl SharedStore {
         }
     }
 
-    /// Lends the words of a permit to a job: its seat has touched nothing, and its base values are the root's. The root lists one loan more.
-    /// No live loan may write a word of the permit, and the permit lets no word of a live loan be written.
+    /// Lends the words of a permit to a job: its seat has touched nothing, and its base values are
+    /// the root's. The root lists one loan more. No live loan may write a word of the permit, and
+    /// the permit lets no word of a live loan be written.
     pub fn lend(&self, root: &mut RootSeat, start: &JobStart, permit: Permit) -> JobSeat
         requires store { root.old.0 ≡ self.now }
         requires permit { FitsBeside root.old.1.loans permit }
@@ -59,7 +62,8 @@ impl SharedStore {
         self.lend_of::<Brand>(root, start, &permit)
     }
 
-    /// The loan of the start and permit that the terms name: the caller holds no permit, and picks one in its proof.
+    /// The loan of the start and permit that the terms name: the caller holds no permit, and picks
+    /// one in its proof.
     pub fn lend_as<T: Terms>(&self, root: &mut RootSeat, start: &JobStart) -> JobSeat
         requires terms { T.start ≡ start.now }
         requires store { root.old.0 ≡ self.now }
@@ -94,7 +98,8 @@ impl SharedStore {
         self.table.shared.join_seat::<Rejoin>(&mut root.seat, other);
     }
 
-    /// The value of a word of the seat's permit: the seat's own last store to it, or else its base value.
+    /// The value of a word of the seat's permit: the seat's own last store to it, or else its base
+    /// value.
     pub fn load(&self, seat: &mut JobSeat, word: u32) -> u32
         requires store { seat.old.0 ≡ self.now }
         requires cell { word < length seat.old.1.lent.base }

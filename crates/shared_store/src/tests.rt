@@ -124,7 +124,8 @@ fn two_threads_leave_what_one_after_the_other_would(rt: HostRuntime) -> Result<(
     Ok(())
 }
 
-/// Whether each of so many loans, all live at once, finds that value in word 0, before the next is lent and after it came back.
+/// Whether each of so many loans, all live at once, finds that value in word 0, before the next is
+/// lent and after it came back.
 fn all_find(
     alloc: Global,
     store: &SharedStore,

@@ -3,7 +3,8 @@ use job_types::{JobStart, Touch};
 use machine_code::Permit;
 use plex_num::Seq;
 
-/// A loan, as the root lists it: its number, the start and permit that it was made for, and the root's values when it was made.
+/// A loan, as the root lists it: its number, the start and permit that it was made for, and the
+/// root's values when it was made.
 pub struct Lent {
     pub number: u64,
     pub start: JobStart,
@@ -17,7 +18,8 @@ pub struct Top {
     pub loans: Seq<Lent>,
 }
 
-/// What the seat of a loan knows: the loan, and the loads and stores that the seat has made, in order.
+/// What the seat of a loan knows: the loan, and the loads and stores that the seat has made, in
+/// order.
 pub struct Hold {
     pub lent: Lent,
     pub touches: Seq<Touch>,

@@ -1,10 +1,13 @@
 -- The values at the end of a line, one after the other.
-use Rattle.std.proofs.Common.{◌≡◌, ℕ, ◌+◌, ◌<◌, ◌≤◌, List, [], ◌∷◌, ◌++◌, length, Option, Some, None, refl, sym, ap, subst, ◌∙◌, append_assoc, append-nil, length-append, arith}
+use Rattle.std.proofs.Common.{◌≡◌, ℕ, ◌+◌, ◌<◌, ◌≤◌, List, [], ◌∷◌, ◌++◌, length, Option, Some}
+use Rattle.std.proofs.Common.{None, refl, sym, ap, subst, ◌∙◌, append_assoc, append-nil}
+use Rattle.std.proofs.Common.{length-append, arith}
 use Rattle.std.proofs.lemmas.List.{take-append-le, take_all}
 use Rattle.plex_limits.specs.declared.limits.TheConstants.{MOST_VALUES}
 use Rattle.plex_num.specs.Number.{number_of}
 use Rattle.signal_file.specs.declared.line.LineKind.{LineKind}
-use Rattle.signal_file.specs.Form.{Closing, IsTail, KeepsFirst, closing, end_or_value, ending, one_more, with}
+use Rattle.signal_file.specs.Form.{Closing, IsTail, KeepsFirst, closing, end_or_value, ending}
+use Rattle.signal_file.specs.Form.{one_more, with}
 
 -- these values stand before the others
 abbrev behind : List ℕ → Option Closing → Option Closing
@@ -25,7 +28,8 @@ pub tail_begin : (ws : List (List ℕ)) → Goes ws ws [] 0
 tail_begin ws = record { done = []; keeps = record { first = refl; counted = refl }; so = behind_none (closing ws) }
 
 -- what is left, from its first word
-opened : (ws rest after : List (List ℕ)) (w : List ℕ) (done : List ℕ) → closing ws ≡ behind done (closing rest) → rest ≡ w ∷ after → closing ws ≡ behind done (end_or_value (ending (w ∷ after)) (number_of w) (closing after))
+opened : (ws rest after : List (List ℕ)) (w : List ℕ) (done : List ℕ) → closing ws ≡ behind done (closing rest)
+    → rest ≡ w ∷ after → closing ws ≡ behind done (end_or_value (ending (w ∷ after)) (number_of w) (closing after))
 unfolding closing
 opened ws rest after w done so is = so ∙ ap (λ r. behind done (closing r)) is
 
@@ -33,7 +37,10 @@ more_behind : (done : List ℕ) (v : ℕ) (o : Option Closing) → behind done (
 more_behind done v None = refl
 more_behind done v (Some c) = ap (λ vs. Some (record { values = vs; kind = c.kind })) (sym (append_assoc done (v ∷ []) c.values))
 
-pub tail_more : (ws rest after : List (List ℕ)) (w : List ℕ) (v count : ℕ) (kept new : List ℕ) → Goes ws rest kept count → rest ≡ w ∷ after → None ≡ ending (w ∷ after) → Some v ≡ number_of w → ((all : List ℕ) → KeepsFirst all kept count → KeepsFirst (all ++ v ∷ []) new (count + 1)) → Goes ws after new (count + 1)
+pub tail_more : (ws rest after : List (List ℕ)) (w : List ℕ) (v count : ℕ) (kept new : List ℕ) → Goes ws rest kept count
+    → rest ≡ w ∷ after → None ≡ ending (w ∷ after) → Some v ≡ number_of w
+    → ((all : List ℕ) → KeepsFirst all kept count → KeepsFirst (all ++ v ∷ []) new (count + 1))
+    → Goes ws after new (count + 1)
 tail_more ws rest after w v count kept new g is no_end number keep = record {
   done = g.done ++ v ∷ [];
   keeps = keep g.done g.keeps;
@@ -44,7 +51,9 @@ tail_more ws rest after w v count kept new g is no_end number keep = record {
       ∙ more_behind g.done v (closing after);
 }
 
-pub tail_ended : (ws rest after : List (List ℕ)) (w : List ℕ) (kind : LineKind) (count : ℕ) (kept : List ℕ) → Goes ws rest kept count → rest ≡ w ∷ after → Some kind ≡ ending (w ∷ after) → IsTail (closing ws) (record { values = kept; count = count; kind = kind })
+pub tail_ended : (ws rest after : List (List ℕ)) (w : List ℕ) (kind : LineKind) (count : ℕ) (kept : List ℕ)
+    → Goes ws rest kept count → rest ≡ w ∷ after → Some kind ≡ ending (w ∷ after)
+    → IsTail (closing ws) (record { values = kept; count = count; kind = kind })
 tail_ended ws rest after w kind count kept g is end =
     let all : closing ws ≡ Some (record { values = g.done; kind = kind }) =
     opened ws rest after w g.done g.so is
@@ -52,7 +61,8 @@ tail_ended ws rest after w kind count kept g is end =
     ∙ ap (λ vs. Some (record { values = vs; kind = kind })) (append-nil g.done) in
     subst (λ o. IsTail o (record { values = kept; count = count; kind = kind })) (sym all) (g.keeps, refl)
 
-pub tail_strange : (ws rest after : List (List ℕ)) (w : List ℕ) (count : ℕ) (kept : List ℕ) → Goes ws rest kept count → rest ≡ w ∷ after → None ≡ ending (w ∷ after) → None ≡ number_of w → closing ws ≡ None
+pub tail_strange : (ws rest after : List (List ℕ)) (w : List ℕ) (count : ℕ) (kept : List ℕ) → Goes ws rest kept count
+    → rest ≡ w ∷ after → None ≡ ending (w ∷ after) → None ≡ number_of w → closing ws ≡ None
 tail_strange ws rest after w count kept g is no_end no_number =
     opened ws rest after w g.done g.so is
     ∙ ap (λ e. behind g.done (end_or_value e (number_of w) (closing after))) (sym no_end)
@@ -67,21 +77,25 @@ pub keep_room : (all kept : List ℕ) (count : ℕ) → KeepsFirst all kept coun
 keep_room all kept count k room = let n = k.counted in k.first ∙ take_all MOST_VALUES all (omega (arith, n))
 
 pub tail_room : (ws rest : List (List ℕ)) (kept : List ℕ) (count : ℕ) → Goes ws rest kept count → count < MOST_VALUES → length kept < MOST_VALUES
-tail_room ws rest kept count g room = let n = g.keeps.counted in let e : length kept ≡ length g.done = ap length (keep_room g.done kept count g.keeps room) in omega (arith, n, e)
+tail_room ws rest kept count g room = let n = g.keeps.counted in let e : length kept
+    ≡ length g.done = ap length (keep_room g.done kept count g.keeps room) in omega (arith, n, e)
 
 one_longer : (all : List ℕ) (v : ℕ) → length (all ++ v ∷ []) ≡ length all + 1
 one_longer all v = length-append all (v ∷ [])
 
-pub keep_pushed : (all kept new : List ℕ) (count v : ℕ) → count < MOST_VALUES → KeepsFirst all kept count → new ≡ kept ++ v ∷ [] → KeepsFirst (all ++ v ∷ []) new (count + 1)
+pub keep_pushed : (all kept new : List ℕ) (count v : ℕ) → count < MOST_VALUES → KeepsFirst all kept count
+    → new ≡ kept ++ v ∷ [] → KeepsFirst (all ++ v ∷ []) new (count + 1)
 keep_pushed all kept new count v room k pushed =
     let n = k.counted in
     let longer = one_longer all v in
     record {
-      first = pushed ∙ ap (λ (l : List ℕ). l ++ v ∷ []) (keep_room all kept count k room) ∙ sym (take_all MOST_VALUES (all ++ v ∷ []) (omega (arith, n, longer)));
+      first = pushed ∙ ap (λ (l : List ℕ). l ++ v ∷ []) (keep_room all kept count k room)
+          ∙ sym (take_all MOST_VALUES (all ++ v ∷ []) (omega (arith, n, longer)));
       counted = omega (arith, n, longer);
     }
 
-pub keep_full : (all kept new : List ℕ) (count v : ℕ) → MOST_VALUES ≤ count → KeepsFirst all kept count → new ≡ kept → KeepsFirst (all ++ v ∷ []) new (count + 1)
+pub keep_full : (all kept new : List ℕ) (count v : ℕ) → MOST_VALUES ≤ count → KeepsFirst all kept count → new ≡ kept
+    → KeepsFirst (all ++ v ∷ []) new (count + 1)
 keep_full all kept new count v full k same =
     let n = k.counted in
     let longer = one_longer all v in

@@ -1,5 +1,6 @@
 -- What is known of a line that names a signal and a block, and of its rules.
-use Rattle.std.proofs.Common.{◌≡◌, ℕ, Bool, true, false, List, [], ◌∷◌, Option, Some, None, Result, Ok, refl, ap, ◌∙◌}
+use Rattle.std.proofs.Common.{◌≡◌, ℕ, Bool, true, false, List, [], ◌∷◌, Option, Some, None, Result}
+use Rattle.std.proofs.Common.{Ok, refl, ap, ◌∙◌}
 use Rattle.std.specs.Prelude.{if◌then◌else◌}
 use Rattle.exchange_model.specs.declared.exchange.Exchange.{Exchange}
 use Rattle.signal_file.specs.declared.directory.Signal.{Signal}
@@ -12,7 +13,8 @@ abbrev pub AllHold : {R : Type 0} → List (R × Bool) → Type 0
 AllHold [] = Unit {0}
 AllHold (test ∷ rest) = (test.1 ≡ true) × AllHold rest
 
-kept_here : {R : Type 0} (rule : R) (holds : Bool) (rest : List (R × Bool)) → (rule_broken rest ≡ None → AllHold rest) → (if holds then rule_broken rest else Some rule) ≡ None → (holds ≡ true) × AllHold rest
+kept_here : {R : Type 0} (rule : R) (holds : Bool) (rest : List (R × Bool)) → (rule_broken rest ≡ None → AllHold rest)
+    → (if holds then rule_broken rest else Some rule) ≡ None → (holds ≡ true) × AllHold rest
 kept_here rule true rest later e = (refl, later e)
 kept_here rule false rest later e = absurd (cc)
 
@@ -26,8 +28,8 @@ all_kept (test ∷ rest) all = ap (λ b. if b then rule_broken rest else Some te
 
 -- ---- a line as it is looked at
 
--- the fault of a rule that it breaks, first of all for want of the signal and of the block; their names, the rules that
--- come then, and what the line is, by its entry, where it keeps them
+-- the fault of a rule that it breaks, first of all for want of the signal and of the block; their
+-- names, the rules that come then, and what the line is, by its entry, where it keeps them
 pub record Looked (A F R : Type 0) : Type 0 where
   pub fault : R → F
   pub no_signal : R
@@ -51,13 +53,18 @@ judged l = need (l.fault l.no_signal) (signal_of l.exchange l.signal) (λ signal
 
 -- what decides
 
-pub by_signal : {A F R : Type 0} (l : Looked A F R) (o : Option Signal) → o ≡ signal_of l.exchange l.signal → need (l.fault l.no_signal) o (λ signal. at_signal l signal) ≡ judged l
+pub by_signal : {A F R : Type 0} (l : Looked A F R) (o : Option Signal) → o ≡ signal_of l.exchange l.signal
+    → need (l.fault l.no_signal) o (λ signal. at_signal l signal) ≡ judged l
 by_signal l o is = ap (λ p. need (l.fault l.no_signal) p (λ signal. at_signal l signal)) is
 
-pub by_block : {A F R : Type 0} (l : Looked A F R) (signal : Signal) (o : Option ℕ) → Some signal ≡ signal_of l.exchange l.signal → o ≡ entry_of l.exchange signal.number l.block → need (l.fault l.no_block) o (λ entry. at_block l signal entry) ≡ judged l
+pub by_block : {A F R : Type 0} (l : Looked A F R) (signal : Signal) (o : Option ℕ)
+    → Some signal ≡ signal_of l.exchange l.signal → o ≡ entry_of l.exchange signal.number l.block
+    → need (l.fault l.no_block) o (λ entry. at_block l signal entry) ≡ judged l
 by_block l signal o named is = ap (λ p. need (l.fault l.no_block) p (λ entry. at_block l signal entry)) is ∙ by_signal l (Some signal) named
 
-pub by_rules : {A F R : Type 0} (l : Looked A F R) (signal : Signal) (entry : ℕ) (o : Option R) → Some signal ≡ signal_of l.exchange l.signal → Some entry ≡ entry_of l.exchange signal.number l.block → o ≡ rule_broken (l.tests signal) → unless l.fault o (l.line entry) ≡ judged l
+pub by_rules : {A F R : Type 0} (l : Looked A F R) (signal : Signal) (entry : ℕ) (o : Option R)
+    → Some signal ≡ signal_of l.exchange l.signal → Some entry ≡ entry_of l.exchange signal.number l.block
+    → o ≡ rule_broken (l.tests signal) → unless l.fault o (l.line entry) ≡ judged l
 by_rules l signal entry o named received is = ap (λ p. unless l.fault p (l.line entry)) is ∙ by_block l signal (Some entry) named received
 
 -- ---- a line without fault

@@ -1,5 +1,6 @@
 -- The form of a line of a signal file, whatever its names mean.
-use Rattle.std.specs.Prelude.{◌≡◌, ℕ, ◌+◌, List, [], ◌∷◌, ◌++◌, take, length, Option, Some, None, MatchOption, if◌then◌else◌, codes}
+use Rattle.std.specs.Prelude.{◌≡◌, ℕ, ◌+◌, List, [], ◌∷◌, ◌++◌, take, length, Option, Some, None}
+use Rattle.std.specs.Prelude.{MatchOption, if◌then◌else◌, codes}
 use Rattle.std.specs.Str.{bytes_eq}
 use Rattle.plex_limits.specs.declared.limits.TheConstants.{MOST_VALUES}
 use Rattle.plex_num.specs.Number.{number_of}
@@ -15,10 +16,12 @@ with (Some a) go = go a
 
 -- `NEW` or `NONE` alone, or `AS` and a number
 abbrev pub bare_ending : List ℕ → Option LineKind
-bare_ending w = (if bytes_eq w (codes "NEW") then Some Fresh else (if bytes_eq w (codes "NONE") then Some Bare else None))
+bare_ending w = (if bytes_eq w (codes "NEW") then Some Fresh
+    else (if bytes_eq w (codes "NONE") then Some Bare else None))
 
 abbrev pub same_ending : List ℕ → List ℕ → Option LineKind
-same_ending w n = (if bytes_eq w (codes "AS") then with (number_of n) (λ i. Some (Same i)) else None)
+same_ending w n = (if bytes_eq w (codes "AS") then with (number_of n) (λ i. Some (Same i))
+    else None)
 
 -- these words are the end of a line
 abbrev pub ending : List (List ℕ) → Option LineKind
@@ -45,7 +48,8 @@ unfoldable pub closing : List (List ℕ) → Option Closing
 closing [] = None
 closing (w ∷ rest) = end_or_value (ending (w ∷ rest)) (number_of w) (closing rest)
 
--- what a signal line says: its count, the names of its signal and its block, its values, and where its forlopp comes from
+-- what a signal line says: its count, the names of its signal and its block, its values, and where
+-- its forlopp comes from
 pub record Saying : Type 0 where
   pub after : ℕ
   pub signal : List ℕ
@@ -57,7 +61,14 @@ pub record Saying : Type 0 where
 unfoldable pub said_in : List (List ℕ) → Option Saying
 said_in (first ∷ count ∷ signal ∷ block ∷ rest) =
     (if bytes_eq first (codes "AFTER")
-    then with (number_of count) (λ n. with (closing rest) (λ t. Some (record { after = n; signal = signal; block = block; values = t.values; kind = t.kind })))
+    then with (number_of count) (λ n. with (closing rest)
+    (λ t. Some (record {
+      after = n;
+      signal = signal;
+      block = block;
+      values = t.values;
+      kind = t.kind;
+    })))
     else None)
 said_in _ = None
 
@@ -68,7 +79,8 @@ pub record KeepsFirst (all kept : List ℕ) (count : ℕ) : Type 0 where
 
 -- one more value is read, and kept if there is room
 abbrev pub KeepsOneMore : List ℕ → ℕ → ℕ → List ℕ → Type 0
-KeepsOneMore old count value new = (all : List ℕ) → KeepsFirst all old count → KeepsFirst (all ++ value ∷ []) new (count + 1)
+KeepsOneMore old count value new =
+    (all : List ℕ) → KeepsFirst all old count → KeepsFirst (all ++ value ∷ []) new (count + 1)
 
 -- this is the end of a line as it is read
 abbrev pub IsTail : Option Closing → Tail → Type 0

@@ -1,7 +1,10 @@
 -- What a signal line means in an exchange, and its first fault.
 --
--- A line is looked at with what counts of the lines before it. Its rules are looked at in a fixed order, and the first that it breaks decides.
-use Rattle.std.specs.Prelude.{◌≡◌, ℕ, ◌+◌, ◌-◌, ◌≤◌, nat_eq, nat_le, Bool, true, false, List, [], ◌∷◌, ◌++◌, length, map, codes, fold, position, slice_get, Option, Some, None, Result, Ok, Err, if◌then◌else◌}
+-- A line is looked at with what counts of the lines before it. Its rules are looked at in a fixed
+-- order, and the first that it breaks decides.
+use Rattle.std.specs.Prelude.{◌≡◌, ℕ, ◌+◌, ◌-◌, ◌≤◌, nat_eq, nat_le, Bool, true, false, List, []}
+use Rattle.std.specs.Prelude.{◌∷◌, ◌++◌, length, map, codes, fold, position, slice_get, Option}
+use Rattle.std.specs.Prelude.{Some, None, Result, Ok, Err, if◌then◌else◌}
 use Rattle.std.specs.Str.{bytes_eq}
 use Rattle.plex_limits.specs.declared.limits.TheConstants.{MOST_VALUES, MOST_SIGNALS, MOST_BLOCKS}
 use Rattle.exchange_model.specs.declared.exchange.Exchange.{Exchange}
@@ -14,7 +17,9 @@ use Rattle.signal_file.specs.declared.directory.Directory.{Directory}
 use Rattle.signal_file.specs.declared.directory.Signal.{Signal}
 use Rattle.signal_file.specs.declared.fault.SignalsFault.{SignalsFault}
 use Rattle.signal_file.specs.declared.fault.SignalsRule.{SignalsRule}
-use Rattle.signal_file.specs.declared.fault.SignalsRule.TheVariants.{TooLarge, BadLine, UnknownSignal, UnknownBlock, WrongData, FallingCount, BadAs}
+use Rattle.signal_file.specs.declared.fault.SignalsRule.TheVariants.{TooLarge, BadLine}
+use Rattle.signal_file.specs.declared.fault.SignalsRule.TheVariants.{UnknownSignal, UnknownBlock}
+use Rattle.signal_file.specs.declared.fault.SignalsRule.TheVariants.{WrongData, FallingCount, BadAs}
 use Rattle.signal_file.specs.declared.line.Line.{Line}
 use Rattle.signal_file.specs.declared.line.LineKind.{LineKind}
 use Rattle.signal_file.specs.declared.line.LineKind.TheVariants.{Fresh, Bare, Same}
@@ -23,16 +28,20 @@ use Rattle.text_lines.specs.Words.{is_skipped, words}
 
 -- a signal, where it is single and buffered: its number, and how many values it has
 abbrev pub if_buffered : ℕ → Option SignalKind → Option Signal
-if_buffered number (Some (Buffered name level count)) = Some (record { number = number; count = count })
+if_buffered number (Some (Buffered name level count)) =
+    Some (record { number = number; count = count })
 if_buffered number _ = None
 
 -- the single buffered signal of this name
 abbrev pub signal_of : Exchange → List ℕ → Option Signal
-signal_of x name = with (position (bytes_eq name) (names_of_signals x.signals)) (λ number. if_buffered number (slice_get x.signals number))
+signal_of x name = with (position (bytes_eq name) (names_of_signals x.signals))
+    (λ number. if_buffered number (slice_get x.signals number))
 
--- the entry of a signal at the block of this name, which is there exactly where the block receives the signal
+-- the entry of a signal at the block of this name, which is there exactly where the block receives
+-- the signal
 abbrev pub entry_of : Exchange → ℕ → List ℕ → Option ℕ
-entry_of x signal name = with (position (bytes_eq name) (names_of_blocks x.blocks)) (λ block. position (is_entry block signal) x.entries)
+entry_of x signal name = with (position (bytes_eq name) (names_of_blocks x.blocks))
+    (λ block. position (is_entry block signal) x.entries)
 
 -- the lines before
 
@@ -58,7 +67,8 @@ abbrev pub gives_forlopp : Option Saying → Bool
 gives_forlopp None = false
 gives_forlopp (Some s) = gives s.kind
 
--- whether a line is a signal line that does not end in NONE, so that a later one may take its forlopp
+-- whether a line is a signal line that does not end in NONE, so that a later one may take its
+-- forlopp
 abbrev pub is_origin : List ℕ → Bool
 is_origin line = gives_forlopp (says line)
 
@@ -82,11 +92,13 @@ abbrev pub is_true : Option Bool → Bool
 is_true None = false
 is_true (Some b) = b
 
--- the number after AS, if there is one, is that of an origin among the lines before, which are numbered from 1
+-- the number after AS, if there is one, is that of an origin among the lines before, which are
+-- numbered from 1
 abbrev pub has_origin : Before → LineKind → Bool
 has_origin b Fresh = true
 has_origin b Bare = true
-has_origin b (Same line) = (if nat_eq line 0 then false else is_true (slice_get b.origins (line - 1)))
+has_origin b (Same line) =
+    (if nat_eq line 0 then false else is_true (slice_get b.origins (line - 1)))
 
 -- the rules
 
@@ -124,7 +136,8 @@ signals_rule_name BadAs = codes "BADAS"
 abbrev pub breach : SignalsRule → ℕ → SignalsFault
 breach rule line = record { line = line; rule = rule }
 
--- the rules on a line of a signal that its block receives, in their order: by the count of the line, how many values it has, and how it ends
+-- the rules on a line of a signal that its block receives, in their order: by the count of the
+-- line, how many values it has, and how it ends
 abbrev pub tests : Before → Signal → ℕ → ℕ → LineKind → List (SignalsRule × Bool)
 tests b signal after values kind =
     (WrongData, nat_eq values signal.count)
@@ -138,18 +151,26 @@ tests_on b s signal = tests b signal s.after (length s.values) s.kind
 
 -- the line that is said, with the entry that it names
 abbrev pub line_of : Before → Saying → ℕ → Line
-line_of b s entry = record { number = next_number b; after = s.after; entry = entry; values = s.values; kind = s.kind }
+line_of b s entry = record {
+  number = next_number b;
+  after = s.after;
+  entry = entry;
+  values = s.values;
+  kind = s.kind;
+}
 
 -- what a signal line means, or its first fault
 unfoldable pub meaning : Exchange → Before → Saying → Result Line SignalsFault
 meaning x b s =
     need (breach UnknownSignal (next_number b)) (signal_of x s.signal) (λ signal.
     need (breach UnknownBlock (next_number b)) (entry_of x signal.number s.block) (λ entry.
-    unless (λ rule. breach rule (next_number b)) (rule_broken (tests_on b s signal)) (line_of b s entry)))
+    unless (λ rule. breach rule (next_number b)) (rule_broken (tests_on b s signal))
+    (line_of b s entry)))
 
 -- what a line adds, nothing where it is skipped; or its first fault
 abbrev pub told : Exchange → Before → Option Saying → Result (Option Line) SignalsFault
-told x b o = need (breach BadLine (next_number b)) o (λ s. and_then (meaning x b s) (λ l. Ok (Some l)))
+told x b o = need (breach BadLine (next_number b)) o
+    (λ s. and_then (meaning x b s) (λ l. Ok (Some l)))
 
 unfoldable pub added : Exchange → Before → List ℕ → Result (Option Line) SignalsFault
 added x b line = (if is_skipped line then Ok None else told x b (said_in (words line)))
@@ -158,6 +179,7 @@ added x b line = (if is_skipped line then Ok None else told x b (said_in (words 
 pub record IsDirectory (x : Exchange) (d : Directory) : Type 0 where
   pub signals : d.signals ≡ names_of_signals x.signals
   pub blocks : d.blocks ≡ names_of_blocks x.blocks
-  pub few : (name : List ℕ) (signal : Signal) → signal_of x name ≡ Some signal → signal.count ≤ MOST_VALUES
+  pub few : (name : List ℕ) (signal : Signal) → signal_of x name ≡ Some signal
+      → signal.count ≤ MOST_VALUES
   pub few_signals : length d.signals ≤ MOST_SIGNALS
   pub few_blocks : length d.blocks ≤ MOST_BLOCKS

@@ -1,5 +1,7 @@
 -- What a table of lines tells is what its lines show.
-use Rattle.std.proofs.Common.{◌≡◌, ⊎_elim, ℕ, ◌+◌, ◌-◌, ◌^◌, ◌<◌, ◌≤◌, ◌≢◌, Bool, true, false, not, ◌&&◌, ◌||◌, List, [], ◌∷◌, ◌++◌, length, map, take, get_or, Option, Some, None, refl, sym, ap, ◌∙◌, subst, arith, rules}
+use Rattle.std.proofs.Common.{◌≡◌, ⊎_elim, ℕ, ◌+◌, ◌-◌, ◌^◌, ◌<◌, ◌≤◌, ◌≢◌, Bool, true, false, not}
+use Rattle.std.proofs.Common.{◌&&◌, ◌||◌, List, [], ◌∷◌, ◌++◌, length, map, take, get_or, Option}
+use Rattle.std.proofs.Common.{Some, None, refl, sym, ap, ◌∙◌, subst, arith, rules}
 use Rattle.std.specs.declared.cmp.Ordering.{Ordering}
 use Rattle.std.specs.declared.cmp.Ordering.TheVariants.{Less, Equal, Greater}
 use Rattle.std.specs.Cmp.{IsTotalOrder}
@@ -7,12 +9,14 @@ use Rattle.std.specs.Ordering.{is_eq, is_gt, is_le, is_lt, nat_cmp, ordering_rev
 use Rattle.std.specs.Prelude.{if◌then◌else◌, max, nat_eq, nat_le, slice_get, unwrap_or}
 use Rattle.std.specs.List.{list_any}
 use Rattle.std.specs.List.Sorted.{IsPartitionedBy}
-use Rattle.std.proofs.lemmas.Bool.{cases_lt, eqb-true, and_from, and_parts, le-leb, leb-true, both_ways}
+use Rattle.std.proofs.lemmas.Bool.{cases_lt, eqb-true, and_from, and_parts, le-leb, leb-true}
+use Rattle.std.proofs.lemmas.Bool.{both_ways}
 use Rattle.std.proofs.lemmas.Bool.Decides.{nat_tests}
 use Rattle.std.proofs.lemmas.Cmp.{tied_itself, upto}
 use Rattle.std.proofs.lemmas.Grind.{common_steps}
 use Rattle.std.proofs.lemmas.List.{get_or-take, get_or_push, length-append, length-take-le}
-use Rattle.std.proofs.lemmas.List.Folds.{Any-from_list_any, list_any-append, list_any_at, list_any_more}
+use Rattle.std.proofs.lemmas.List.Folds.{Any-from_list_any, list_any-append, list_any_at}
+use Rattle.std.proofs.lemmas.List.Folds.{list_any_more}
 use Rattle.std.proofs.lemmas.List.Sorted.{list_any-IsPermutation, ranks_by, sorted_far}
 use Rattle.std.proofs.lemmas.Option.{get_or_from_slice_get}
 use Rattle.std.proofs.lemmas.Map.Keys.{le_from_is_le}
@@ -26,7 +30,9 @@ use Rattle.signal_trace.specs.contracts.table.KeyEq.TheImpl.Laws as equal_laws
 use Rattle.signal_trace.specs.contracts.table.KeyOrd.TheImpl as keys
 use Rattle.signal_trace.specs.contracts.table.KeyOrd.TheImpl.Laws as key_laws
 use Rattle.signal_trace.specs.contracts.table.StartOrd.TheImpl.Laws as start_laws
-use Rattle.signal_trace.specs.Table.{AreCounted, AreLasts, AreRising, IsLast, IsTraceTable, has_key, key_of, key_with, keys_at, keys_for, keys_in, reach, reaches, row_of, same_key, some_has, start_order}
+use Rattle.signal_trace.specs.Table.{AreCounted, AreLasts, AreRising, IsLast, IsTraceTable, has_key}
+use Rattle.signal_trace.specs.Table.{key_of, key_with, keys_at, keys_for, keys_in, reach, reaches}
+use Rattle.signal_trace.specs.Table.{row_of, same_key, some_has, start_order}
 use Rattle.signal_trace.specs.Trace.{agrees, is_fault, is_from, is_upto, shows}
 
 -- truths
@@ -114,12 +120,14 @@ begins x y same le = ap is_le (by_number x y same) ∙ at_most_number x.from y.f
 
 -- rows in order
 
-rises : (rows : List Row) → AreRising rows → (i j : ℕ) (d : Row) → i ≤ j → j < length rows → is_le (start_order (get_or rows i d).start (get_or rows j d).start) ≡ true
+rises : (rows : List Row) → AreRising rows → (i j : ℕ) (d : Row) → i ≤ j → j < length rows
+    → is_le (start_order (get_or rows i d).start (get_or rows j d).start) ≡ true
 rises rows up i j d le lt =
     let x = (get_or rows i d).start in
     let y = (get_or rows j d).start in
     ap is_le (starts_total.antisymm x y)
-    ∙ turned (start_order y x) (sorted_far (λ (r s : Row). is_lt (start_order r.start s.start)) (ranks_by starts_total (λ (r : Row). r.start)) rows up i j d le lt)
+    ∙ turned (start_order y x) (sorted_far (λ (r s : Row). is_lt (start_order r.start s.start))
+    (ranks_by starts_total (λ (r : Row). r.start)) rows up i j d le lt)
 
 pub parted : (start : Start) (rows : List Row) → AreRising rows → IsPartitionedBy (λ (r : Row). is_le (start_order r.start start)) rows
 parted start rows up i j d le lt passes = starts_upto (get_or rows i d).start (get_or rows j d).start start (rises rows up i j d le lt) passes
@@ -127,17 +135,22 @@ parted start rows up i j d le lt passes = starts_upto (get_or rows i d).start (g
 -- how far the rows of a key reach
 
 -- where no row before a place has a key, none of those reaches
-none_reach : (rows : List Row) (key : Key) (number place : ℕ) → place ≤ length rows → ((k : ℕ) (x : Row) → k < place → get_or rows k x ≡ x → x.start.key ≡ key → ⊥) → reach key number (take place rows) ≡ false
+none_reach : (rows : List Row) (key : Key) (number place : ℕ) → place ≤ length rows
+    → ((k : ℕ) (x : Row) → k < place → get_or rows k x ≡ x → x.start.key ≡ key → ⊥)
+    → reach key number (take place rows) ≡ false
 none_reach rows key number place le none = one_truth (reach key number (take place rows)) false found (λ e. cc)
   where
     found : reach key number (take place rows) ≡ true → false ≡ true
     found e =
         let (k, x, lt, at, is) = Any-from_list_any (λ (r : Row). same_key r.start.key key && nat_le number r.upto) (take place rows) e in
         let before : k < place = (let long = length-take-le place rows le in omega (arith, lt, long)) in
-        absurd (none k x before (sym (get_or-take place rows k x before) ∙ at) (same_is x.start.key key (and_parts (same_key x.start.key key) (nat_le number x.upto) is).0))
+        absurd (none k x before (sym (get_or-take place rows k x before) ∙ at)
+        (same_is x.start.key key (and_parts (same_key x.start.key key) (nat_le number x.upto) is).0))
 
 -- one row more
-one_reaches : (rows : List Row) (place : ℕ) (row : Row) → place < length rows → slice_get rows place ≡ Some row → (d : Row) (number : ℕ) → reach (get_or rows place d).start.key number (take (place + 1) rows) ≡ (reach row.start.key number (take place rows) || nat_le number row.upto)
+one_reaches : (rows : List Row) (place : ℕ) (row : Row) → place < length rows → slice_get rows place ≡ Some row
+    → (d : Row) (number : ℕ) → reach (get_or rows place d).start.key number (take (place + 1) rows)
+    ≡ (reach row.start.key number (take place rows) || nat_le number row.upto)
 one_reaches rows place row within there d number =
     let test : Key → Row → Bool = λ key r. same_key r.start.key key && nat_le number r.upto in
     let at = get_or_from_slice_get rows place row d there in
@@ -154,7 +167,10 @@ last_first rows place row within there first = record {
 up_to_max : (number a b : ℕ) → (nat_le number a || nat_le number b) ≡ nat_le number (max a b)
 up_to_max number a b = grind (arith, nat_tests)
 
-module _ (rows : List Row) (lasts : List ℕ) (place last result : ℕ) (before row : Row) (up : AreRising rows) (within : place < length rows) (some : place ≢ 0) (so_far : AreLasts place rows lasts) (one : slice_get rows (place - 1) ≡ Some before) (other : slice_get rows place ≡ Some row) (is : last ≡ get_or lasts (place - 1) 0) where
+module _ (rows : List Row) (lasts : List ℕ) (place last result : ℕ) (before row : Row) (up : AreRising rows)
+    (within : place < length rows) (some : place ≢ 0) (so_far : AreLasts place rows lasts)
+    (one : slice_get rows (place - 1) ≡ Some before) (other : slice_get rows place ≡ Some row)
+    (is : last ≡ get_or lasts (place - 1) 0) where
   last_by : (b : Bool) → same_key before.start.key row.start.key ≡ b → result ≡ (if b then max last row.upto else row.upto) → IsLast rows place result
   last_by true same end = record {
     reached = λ d number.
@@ -162,7 +178,8 @@ module _ (rows : List Row) (lasts : List ℕ) (place last result : ℕ) (before 
         let there : place - 1 + 1 ≡ place = omega (arith, some) in
         let key : (get_or rows (place - 1) d).start.key ≡ row.start.key = ap (λ (r : Row). r.start.key) prior ∙ same_is before.start.key row.start.key same in
         let so : reach row.start.key number (take place rows) ≡ nat_le number last =
-        (λ i. reach (sym key i) number (take (sym there i) rows)) ∙ (so_far.each (place - 1) (omega (arith, some))).reached d number ∙ ap (nat_le number) (sym is) in
+        (λ i. reach (sym key i) number (take (sym there i) rows))
+        ∙ (so_far.each (place - 1) (omega (arith, some))).reached d number ∙ ap (nat_le number) (sym is) in
         one_reaches rows place row within other d number
         ∙ ap (λ b. b || nat_le number row.upto) so
         ∙ up_to_max number last row.upto
@@ -177,7 +194,9 @@ module _ (rows : List Row) (lasts : List ℕ) (place last result : ℕ) (before 
         let y_is : y ≡ before = get_or_from_slice_get rows (place - 1) before x one in
         let z_key : z.start.key ≡ row.start.key = ap (λ (r : Row). r.start.key) (get_or_from_slice_get rows place row x other) in
         let x_key : (get_or rows k x).start.key ≡ row.start.key = ap (λ (r : Row). r.start.key) at ∙ key in
-        let y_key = squeezed (get_or rows k x).start y.start z.start (rises rows up k (place - 1) x (omega (arith, lt)) (omega (arith, within))) (rises rows up (place - 1) place x (omega arith) within) (x_key ∙ sym z_key) in
+        let y_key = squeezed (get_or rows k x).start y.start z.start
+        (rises rows up k (place - 1) x (omega (arith, lt)) (omega (arith, within)))
+        (rises rows up (place - 1) place x (omega arith) within) (x_key ∙ sym z_key) in
         let keys : before.start.key ≡ row.start.key = ap (λ (r : Row). r.start.key) (sym y_is) ∙ y_key ∙ x_key in
         both_ways (same_key before.start.key row.start.key) differs (ap (same_key before.start.key) (sym keys) ∙ same_self before.start.key)))
         ∙ ap (nat_le number) (sym end);
@@ -189,7 +208,8 @@ module _ (rows : List Row) (lasts : List ℕ) (place last result : ℕ) (before 
 pub lasts_begin : (rows : List Row) (lasts : List ℕ) → lasts ≡ [] → AreLasts 0 rows lasts
 lasts_begin rows lasts none = record { many = ap length none; each = λ k lt. absurd (omega (arith, lt)) }
 
-pub lasts_more : (rows : List Row) (lasts new : List ℕ) (place last : ℕ) → AreLasts place rows lasts → IsLast rows place last → new ≡ lasts ++ last ∷ [] → AreLasts (place + 1) rows new
+pub lasts_more : (rows : List Row) (lasts new : List ℕ) (place last : ℕ) → AreLasts place rows lasts
+    → IsLast rows place last → new ≡ lasts ++ last ∷ [] → AreLasts (place + 1) rows new
 lasts_more rows lasts new place last so_far here is =
     let many = so_far.many in
     let long = ap length is ∙ length-append lasts (last ∷ []) in
@@ -224,8 +244,12 @@ module _ (rows : List Row) (key : Key) (number count : ℕ) (up : AreRising rows
           let before : k < count = omega (arith, lt, long) in
           let at_rows : get_or rows k x ≡ x = sym (get_or-take count rows k x before) ∙ at in
           let parts = and_parts (same_key x.start.key key) (nat_le number x.upto) is in
-          let low : x.start.from ≤ number = begun x.start start (same_is x.start.key key parts.0) (ap (λ (r : Row). is_le (start_order r.start start)) (sym at_rows) ∙ counted.parts.0 k x (omega arith) before) in
-          let passes : reaches key number x ≡ true = and_from (nat_le x.start.from number && nat_le number x.upto) (same_key x.start.key key) (and_from (nat_le x.start.from number) (nat_le number x.upto) (le-leb x.start.from number low) parts.1) parts.0 in
+          let low : x.start.from ≤ number = begun x.start start (same_is x.start.key key parts.0)
+          (ap (λ (r : Row). is_le (start_order r.start start)) (sym at_rows)
+          ∙ counted.parts.0 k x (omega arith) before) in
+          let passes : reaches key number x ≡ true = and_from (nat_le x.start.from number && nat_le number x.upto)
+          (same_key x.start.key key) (and_from (nat_le x.start.from number) (nat_le number x.upto)
+          (le-leb x.start.from number low) parts.1) parts.0 in
           list_any_at (reaches key number) rows k x (let most = counted.there in omega (arith, before, most)) (ap (reaches key number) at_rows ∙ passes)
 
       here : list_any (reaches key number) rows ≡ true → reach key number (take count rows) ≡ true
@@ -233,14 +257,20 @@ module _ (rows : List Row) (key : Key) (number count : ℕ) (up : AreRising rows
           let (k, x, lt, at, is) = Any-from_list_any (reaches key number) rows e in
           let parts = and_parts (nat_le x.start.from number && nat_le number x.upto) (same_key x.start.key key) is in
           let span = and_parts (nat_le x.start.from number) (nat_le number x.upto) parts.0 in
-          let before : k < count = ⊎_elim (λ lt. lt) (λ past. absurd (both_ways (is_le (start_order x.start start)) (ap (λ (r : Row). is_le (start_order r.start start)) (sym at) ∙ counted.parts.1 k x past lt) (begins x.start start (same_is x.start.key key parts.1) (leb-true x.start.from number span.0)))) (cases_lt k count) in
+          let before : k < count = ⊎_elim (λ lt. lt)
+          (λ past. absurd (both_ways (is_le (start_order x.start start))
+          (ap (λ (r : Row). is_le (start_order r.start start)) (sym at) ∙ counted.parts.1 k x past lt)
+          (begins x.start start (same_is x.start.key key parts.1) (leb-true x.start.from number span.0))))
+          (cases_lt k count) in
           list_any_at (λ (r : Row). same_key r.start.key key && nat_le number r.upto) (take count rows) k x (omega (arith, before, long))
-          (ap (λ (r : Row). same_key r.start.key key && nat_le number r.upto) (get_or-take count rows k x before ∙ at) ∙ and_from (same_key x.start.key key) (nat_le number x.upto) parts.1 span.1)
+          (ap (λ (r : Row). same_key r.start.key key && nat_le number r.upto) (get_or-take count rows k x before ∙ at)
+          ∙ and_from (same_key x.start.key key) (nat_le number x.upto) parts.1 span.1)
 
   pub none_reaches : count ≡ 0 → false ≡ list_any (reaches key number) rows
   none_reaches none = ap (λ n. reach key number (take n rows)) (sym none) ∙ begun_reach
 
-  module _ (lasts : List ℕ) (row : Row) (last : ℕ) (some : count ≢ 0) (so_far : AreLasts (length rows) rows lasts) (there : slice_get rows (count - 1) ≡ Some row) (last_is : last ≡ get_or lasts (count - 1) 0) where
+  module _ (lasts : List ℕ) (row : Row) (last : ℕ) (some : count ≢ 0) (so_far : AreLasts (length rows) rows lasts)
+      (there : slice_get rows (count - 1) ≡ Some row) (last_is : last ≡ get_or lasts (count - 1) 0) where
     in_rows : count - 1 < length rows
     in_rows = let most = counted.there in omega (arith, most, some)
 
@@ -255,7 +285,9 @@ module _ (rows : List Row) (key : Key) (number count : ℕ) (up : AreRising rows
         sym (none_reach rows key number count counted.there (λ k x lt at x_is.
         let y = get_or rows (count - 1) x in
         let x_key : (get_or rows k x).start.key ≡ key = ap (λ (r : Row). r.start.key) at ∙ x_is in
-        let y_key = squeezed (get_or rows k x).start y.start start (rises rows up k (count - 1) x (omega (arith, lt)) in_rows) (counted.parts.0 (count - 1) x (omega arith) (omega (arith, some))) x_key in
+        let y_key = squeezed (get_or rows k x).start y.start start
+        (rises rows up k (count - 1) x (omega (arith, lt)) in_rows)
+        (counted.parts.0 (count - 1) x (omega arith) (omega (arith, some))) x_key in
         let row_key : row.start.key ≡ key = ap (λ (r : Row). r.start.key) (sym (get_or_from_slice_get rows (count - 1) row x there)) ∙ y_key ∙ x_key in
         both_ways (same_key row.start.key key) differs (ap (same_key row.start.key) (sym row_key) ∙ same_self row.start.key)))
 
@@ -279,11 +311,13 @@ any_mapped p f (l ∷ ls) = ap (λ b. p (f l) || b) (any_mapped p f ls)
 below_most : (number most : ℕ) → number < most → number ≤ most - 1
 below_most number most lt = omega (arith, lt)
 
-pub key_told : (ls : List Show) (rows : List Row) (lasts : List ℕ) (key : Key) (number : ℕ) → IsTraceTable ls rows lasts → number < 2 ^ 64 → list_any (reaches key number) rows ≡ list_any (has_key key number) ls
+pub key_told : (ls : List Show) (rows : List Row) (lasts : List ℕ) (key : Key) (number : ℕ) → IsTraceTable ls rows lasts
+    → number < 2 ^ 64 → list_any (reaches key number) rows ≡ list_any (has_key key number) ls
 key_told ls rows lasts key number t small =
     sym (list_any-IsPermutation (reaches key number) (map row_of ls) rows t.same)
     ∙ any_mapped (reaches key number) row_of ls
-    ∙ (λ i. list_any (λ (l : Show). (span_from l.from number i && span_upto l.upto number (2 ^ 64 - 1) (below_most number (2 ^ 64) small) i) && same_key (key_of l) key) ls)
+    ∙ (λ i. list_any (λ (l : Show). (span_from l.from number i
+    && span_upto l.upto number (2 ^ 64 - 1) (below_most number (2 ^ 64) small) i) && same_key (key_of l) key) ls)
 
 -- the key of a line, part by part
 
@@ -318,8 +352,10 @@ flag_self : (b : Bool) → is_flag b b ≡ true
 flag_self true = refl
 flag_self false = refl
 
-key_parts : (j k : Key) → same_key j k ≡ (is_named j.block k.block && (is_named j.signal k.signal && (is_flag j.faults k.faults && is_named j.forlopp k.forlopp)))
-key_parts j k = one_truth (same_key j k) (is_named j.block k.block && (is_named j.signal k.signal && (is_flag j.faults k.faults && is_named j.forlopp k.forlopp))) parts whole
+key_parts : (j k : Key) → same_key j k ≡ (is_named j.block k.block
+    && (is_named j.signal k.signal && (is_flag j.faults k.faults && is_named j.forlopp k.forlopp)))
+key_parts j k = one_truth (same_key j k) (is_named j.block k.block
+    && (is_named j.signal k.signal && (is_flag j.faults k.faults && is_named j.forlopp k.forlopp))) parts whole
   where
     self : (i : Key) → (is_named i.block i.block && (is_named i.signal i.signal && (is_flag i.faults i.faults && is_named i.forlopp i.forlopp))) ≡ true
     self i =
@@ -327,15 +363,24 @@ key_parts j k = one_truth (same_key j k) (is_named j.block k.block && (is_named 
         (and_from (is_named i.signal i.signal) (is_flag i.faults i.faults && is_named i.forlopp i.forlopp) (named_self i.signal)
         (and_from (is_flag i.faults i.faults) (is_named i.forlopp i.forlopp) (flag_self i.faults) (named_self i.forlopp)))
 
-    parts : same_key j k ≡ true → (is_named j.block k.block && (is_named j.signal k.signal && (is_flag j.faults k.faults && is_named j.forlopp k.forlopp))) ≡ true
-    parts e = subst (λ (i : Key). (is_named j.block i.block && (is_named j.signal i.signal && (is_flag j.faults i.faults && is_named j.forlopp i.forlopp))) ≡ true) (same_is j k e) (self j)
+    parts : same_key j k ≡ true → (is_named j.block k.block
+        && (is_named j.signal k.signal && (is_flag j.faults k.faults && is_named j.forlopp k.forlopp))) ≡ true
+    parts e = subst (λ (i : Key). (is_named j.block i.block
+        && (is_named j.signal i.signal && (is_flag j.faults i.faults && is_named j.forlopp i.forlopp))) ≡ true)
+        (same_is j k e) (self j)
 
-    whole : (is_named j.block k.block && (is_named j.signal k.signal && (is_flag j.faults k.faults && is_named j.forlopp k.forlopp))) ≡ true → same_key j k ≡ true
+    whole : (is_named j.block k.block && (is_named j.signal k.signal
+        && (is_flag j.faults k.faults && is_named j.forlopp k.forlopp))) ≡ true → same_key j k ≡ true
     whole e =
         let one = and_parts (is_named j.block k.block) (is_named j.signal k.signal && (is_flag j.faults k.faults && is_named j.forlopp k.forlopp)) e in
         let two = and_parts (is_named j.signal k.signal) (is_flag j.faults k.faults && is_named j.forlopp k.forlopp) one.1 in
         let three = and_parts (is_flag j.faults k.faults) (is_named j.forlopp k.forlopp) two.1 in
-        let same : j ≡ k = (λ i. record { block = named_is j.block k.block one.0 i; signal = named_is j.signal k.signal two.0 i; forlopp = named_is j.forlopp k.forlopp three.1 i; faults = flag_is j.faults k.faults three.0 i }) in
+        let same : j ≡ k = (λ i. record {
+          block = named_is j.block k.block one.0 i;
+          signal = named_is j.signal k.signal two.0 i;
+          forlopp = named_is j.forlopp k.forlopp three.1 i;
+          faults = flag_is j.faults k.faults three.0 i;
+        }) in
         ap (same_key j) (sym same) ∙ same_self j
 
 -- the keys that agree with a job, together
@@ -372,7 +417,8 @@ named_either (Some m) n = refl
 
 -- a line has the job in its span, names its flag so, and agrees with it in all else
 abbrev meets : Entry → (forlopp number : ℕ) → Bool → Show → Bool
-meets e forlopp number flag l = (is_from l.from number && is_upto l.upto number) && (agrees l.block e.block && (agrees l.signal e.signal && (flag && agrees l.forlopp forlopp)))
+meets e forlopp number flag l = (is_from l.from number && is_upto l.upto number)
+    && (agrees l.block e.block && (agrees l.signal e.signal && (flag && agrees l.forlopp forlopp)))
 
 module _ (e : Entry) (forlopp number : ℕ) (faults : Bool) (l : Show) where
   abbrev span : Bool
@@ -381,16 +427,19 @@ module _ (e : Entry) (forlopp number : ℕ) (faults : Bool) (l : Show) where
   abbrev flag : Bool
   flag = is_flag l.faults faults
 
-  has : (block signal other : Option ℕ) → has_key (key_with block signal other faults) number l ≡ (span && (is_named l.block block && (is_named l.signal signal && (flag && is_named l.forlopp other))))
+  has : (block signal other : Option ℕ) → has_key (key_with block signal other faults) number l
+      ≡ (span && (is_named l.block block && (is_named l.signal signal && (flag && is_named l.forlopp other))))
   has block signal other = ap (λ b. span && b) (key_parts (key_of l) (key_with block signal other faults))
 
-  has_at : (block signal : Option ℕ) → list_any (λ k. has_key k number l) (keys_at block signal forlopp faults) ≡ (span && (is_named l.block block && (is_named l.signal signal && (flag && agrees l.forlopp forlopp))))
+  has_at : (block signal : Option ℕ) → list_any (λ k. has_key k number l) (keys_at block signal forlopp faults)
+      ≡ (span && (is_named l.block block && (is_named l.signal signal && (flag && agrees l.forlopp forlopp))))
   has_at block signal =
       (λ i. has block signal None i || (has block signal (Some forlopp) i || false))
       ∙ last_pair span (is_named l.block block) (is_named l.signal signal) flag (is_named l.forlopp None) (is_named l.forlopp (Some forlopp))
       ∙ ap (λ b. span && (is_named l.block block && (is_named l.signal signal && (flag && b)))) (named_either l.forlopp forlopp)
 
-  has_in : (block : Option ℕ) → list_any (λ k. has_key k number l) (keys_in block e.signal forlopp faults) ≡ (span && (is_named l.block block && (agrees l.signal e.signal && (flag && agrees l.forlopp forlopp))))
+  has_in : (block : Option ℕ) → list_any (λ k. has_key k number l) (keys_in block e.signal forlopp faults)
+      ≡ (span && (is_named l.block block && (agrees l.signal e.signal && (flag && agrees l.forlopp forlopp))))
   has_in block =
       list_any-append (λ k. has_key k number l) (keys_at block None forlopp faults) (keys_at block (Some e.signal) forlopp faults)
       ∙ (λ i. has_at block None i || has_at block (Some e.signal) i)
@@ -426,7 +475,9 @@ turned_round p (k ∷ ks) ls =
     ap (λ b. list_any (p k) ls || b) (turned_round p ks ls)
     ∙ sym (any_either (λ l. p k l || list_any (λ j. p j l) ks) (p k) (λ l. list_any (λ j. p j l) ks) (λ l. refl) ls)
 
-some_meets : (e : Entry) (forlopp number : ℕ) (faults : Bool) (ls : List Show) → some_has ls number (keys_for e forlopp faults) ≡ list_any (λ l. meets e forlopp number (is_flag l.faults faults) l) ls
+some_meets : (e : Entry) (forlopp number : ℕ) (faults : Bool) (ls : List Show)
+    → some_has ls number (keys_for e forlopp faults)
+    ≡ list_any (λ l. meets e forlopp number (is_flag l.faults faults) l) ls
 some_meets e forlopp number faults ls =
     turned_round (λ k. has_key k number) (keys_for e forlopp faults) ls ∙ (λ i. list_any (λ l. has_one e forlopp number faults l i) ls)
 
@@ -434,11 +485,15 @@ flag_either : (b : Bool) → (not b || true) ≡ (not b || b)
 flag_either true = refl
 flag_either false = refl
 
-pub by_keys : (e : Entry) (forlopp number : ℕ) (outcome : Outcome) (faulted : Bool) (ls : List Show) → faulted ≡ is_fault outcome → list_any (shows e forlopp number outcome) ls ≡ (some_has ls number (keys_for e forlopp false) || (faulted && some_has ls number (keys_for e forlopp true)))
+pub by_keys : (e : Entry) (forlopp number : ℕ) (outcome : Outcome) (faulted : Bool) (ls : List Show)
+    → faulted ≡ is_fault outcome → list_any (shows e forlopp number outcome) ls
+    ≡ (some_has ls number (keys_for e forlopp false) || (faulted && some_has ls number (keys_for e forlopp true)))
 by_keys e forlopp number outcome true ls is =
     (λ i. list_any (λ l. meets e forlopp number (not l.faults || sym is i) l) ls)
     ∙ any_either (λ l. meets e forlopp number (not l.faults || true) l) (λ l. meets e forlopp number (not l.faults) l) (λ l. meets e forlopp number l.faults l)
-    (λ l. ap (λ b. meets e forlopp number b l) (flag_either l.faults) ∙ sym (behind_three (is_from l.from number && is_upto l.upto number) (agrees l.block e.block) (agrees l.signal e.signal) (not l.faults) l.faults (agrees l.forlopp forlopp))) ls
+    (λ l. ap (λ b. meets e forlopp number b l) (flag_either l.faults)
+    ∙ sym (behind_three (is_from l.from number && is_upto l.upto number) (agrees l.block e.block)
+    (agrees l.signal e.signal) (not l.faults) l.faults (agrees l.forlopp forlopp))) ls
     ∙ sym (λ i. some_meets e forlopp number false ls i || some_meets e forlopp number true ls i)
 by_keys e forlopp number outcome false ls is =
     (λ i. list_any (λ l. meets e forlopp number (not l.faults || sym is i) l) ls)

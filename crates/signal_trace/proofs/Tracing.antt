@@ -1,5 +1,7 @@
 -- The jobs that a filter shows, turn by turn, and their text.
-use Rattle.std.proofs.Common.{◌≡◌, ℕ, true, false, List, [], ◌∷◌, ◌++◌, refl, sym, ap, ◌∙◌, if◌then◌else◌, zero, suc, ◌+◌, Option, Some, None, append_assoc, arith, ◌≤◌, map}
+use Rattle.std.proofs.Common.{◌≡◌, ℕ, true, false, List, [], ◌∷◌, ◌++◌, refl, sym, ap, ◌∙◌}
+use Rattle.std.proofs.Common.{if◌then◌else◌, zero, suc, ◌+◌, Option, Some, None, append_assoc}
+use Rattle.std.proofs.Common.{arith, ◌≤◌, map}
 use Rattle.std.proofs.lemmas.List.{append-nil, map-append}
 use Rattle.std.proofs.lemmas.List.Concat.{flat_map-append}
 use Rattle.exchange_model.specs.declared.exchange.Exchange.{Exchange}
@@ -37,7 +39,8 @@ told_none x ls t text is =
     sym (ap (λ b. text ++ trace_text x (if b then t ∷ [] else [])) is ∙ ap (λ s. text ++ s) (none_told x) ∙ append-nil text)
 
 -- a job that some line shows
-pub told_one : (x : Exchange) (ls : List Show) (t : TracedJob) (text more : List ℕ) → is_shown x ls t ≡ true → more ≡ text ++ job_text x t → more ≡ text ++ trace_text x (one_if_shown x ls t)
+pub told_one : (x : Exchange) (ls : List Show) (t : TracedJob) (text more : List ℕ) → is_shown x ls t ≡ true
+    → more ≡ text ++ job_text x t → more ≡ text ++ trace_text x (one_if_shown x ls t)
 told_one x ls t text more is wrote =
     wrote ∙ sym (ap (λ b. text ++ trace_text x (if b then t ∷ [] else [])) is ∙ ap (λ s. text ++ s) (one_told x t))
 
@@ -62,7 +65,9 @@ one_filtered : (x : Exchange) (ls : List Show) (o : Option TracedJob) → filter
 one_filtered x ls None = refl
 one_filtered x ls (Some t) = refl
 
-shown_more : (x : Exchange) (first : State) (ls : List Show) (n : ℕ) → filter (is_shown x ls) (first_jobs x first n) ++ shown_next x ls (after x first n) ≡ filter (is_shown x ls) (first_jobs x first (suc n))
+shown_more : (x : Exchange) (first : State) (ls : List Show) (n : ℕ)
+    → filter (is_shown x ls) (first_jobs x first n)
+    ++ shown_next x ls (after x first n) ≡ filter (is_shown x ls) (first_jobs x first (suc n))
 shown_more x first ls n =
     sym (ap (filter (is_shown x ls)) (jobs_more x first n)
     ∙ filter-append (is_shown x ls) (first_jobs x first n) (cons_option (next_job x (after x first n)) [])
@@ -75,12 +80,21 @@ unchanged x t = λ i. record t { text = sym (ap (λ s. t.text ++ s) (none_told x
 next_told : (x : Exchange) (s : State) (t : Tracer) → told_next told x s t ≡ record t { text = t.text ++ trace_text x (shown_next x t.shows.now s) }
 next_told x s t = by (next_start s)
   where
-    by : (o : Option JobStart) → option_map_or (λ start. told t x (s.ended + 1) start (left_by x start s.store)) o t ≡ record t { text = t.text ++ trace_text x (option_map_or (one_if_shown x t.shows.now) (option_map (λ start. traced (s.ended + 1) start (left_by x start s.store)) o) []) }
+    by : (o : Option JobStart) → option_map_or (λ start. told t x (s.ended + 1) start (left_by x start s.store)) o t
+        ≡ record t {
+          text = t.text ++ trace_text x
+              (option_map_or (one_if_shown x t.shows.now)
+              (option_map (λ start. traced (s.ended + 1) start (left_by x start s.store)) o) []);
+        }
     by None = unchanged x t
     by (Some start) = refl
 
 -- a tracer that was told of the first jobs has the text of those that are shown
-told_text : (x : Exchange) (first : State) (n : ℕ) (t : Tracer) → told_of told x first n t ≡ record t { text = t.text ++ trace_text x (filter (is_shown x t.shows.now) (first_jobs x first n)) }
+told_text : (x : Exchange) (first : State) (n : ℕ) (t : Tracer)
+    → told_of told x first n t ≡ record t {
+      text = t.text
+          ++ trace_text x (filter (is_shown x t.shows.now) (first_jobs x first n));
+    }
 unfolding told_of first_jobs
 told_text x first zero t = unchanged x t
 told_text x first (suc n) t =
@@ -95,7 +109,9 @@ told_text x first (suc n) t =
     ∙ (λ i. record t { text = joined i })
 
 -- at the end of a run that begins before the first job has ended, it has the text of the trace
-pub told_all : (x : Exchange) (first : State) (limit : ℕ) (ls : List Show) (t u : Tracer) → first.ended ≡ 0 → t.text ≡ [] → t.shows.now ≡ ls → u ≡ told_of told x first (jobs_at_end x limit first) t → u.text ≡ trace_text x (trace x limit first ls)
+pub told_all : (x : Exchange) (first : State) (limit : ℕ) (ls : List Show) (t u : Tracer) → first.ended ≡ 0
+    → t.text ≡ [] → t.shows.now ≡ ls → u ≡ told_of told x first (jobs_at_end x limit first) t
+    → u.text ≡ trace_text x (trace x limit first ls)
 told_all x first limit ls t u none empty lines is =
     let n = jobs_at_end x limit first in
     ap (λ (w : Tracer). w.text) (is ∙ told_text x first n t)
@@ -105,12 +121,14 @@ told_all x first limit ls t u none empty lines is =
 -- ## Each job that ends is one of the full trace
 
 -- where the run goes on, a job begins
-one_number : (x : Exchange) (s : State) (limit : ℕ) → ending_at limit s ≡ None → map (λ (t : TracedJob). t.number) (cons_option (next_job x s) []) ≡ (s.ended + 1) ∷ []
+one_number : (x : Exchange) (s : State) (limit : ℕ) → ending_at limit s ≡ None
+    → map (λ (t : TracedJob). t.number) (cons_option (next_job x s) []) ≡ (s.ended + 1) ∷ []
 one_number x s limit goes =
     let some = some_start s limit goes in
     ap (λ o. map (λ (t : TracedJob). t.number) (cons_option (option_map (λ start. traced (s.ended + 1) start (left_by x start s.store)) o) [])) some.1
 
-numbers : (x : Exchange) (s : State) (limit n : ℕ) → s.ended ≡ 0 → n ≤ jobs_at_end x limit s → map (λ (t : TracedJob). t.number) (first_jobs x s n) ≡ range_with_len 1 n
+numbers : (x : Exchange) (s : State) (limit n : ℕ) → s.ended ≡ 0 → n ≤ jobs_at_end x limit s
+    → map (λ (t : TracedJob). t.number) (first_jobs x s n) ≡ range_with_len 1 n
 unfolding first_jobs
 numbers x s limit zero none le = refl
 numbers x s limit (suc n) none le =
@@ -123,7 +141,8 @@ numbers x s limit (suc n) none le =
     ∙ ap (λ ns. range_with_len 1 n ++ ns) (one_number x (after x s n) limit (before_end x s limit n (omega (arith, le))) ∙ ap (λ (k : ℕ). k ∷ []) next)
     ∙ sym (range_more 1 n)
 
-pub all_numbered : (x : Exchange) (limit : ℕ) (s : State) → s.ended ≡ 0 → map (λ (t : TracedJob). t.number) (full_trace x limit s) ≡ range_with_len 1 (end_state x limit s).ended
+pub all_numbered : (x : Exchange) (limit : ℕ) (s : State) → s.ended ≡ 0
+    → map (λ (t : TracedJob). t.number) (full_trace x limit s) ≡ range_with_len 1 (end_state x limit s).ended
 all_numbered x limit s none =
     let count = counted x s none limit (jobs_at_end x limit s) (omega arith) in
     numbers x s limit (end_state x limit s).ended none (omega (arith, count))

@@ -19,10 +19,13 @@ abbrev pub outcome_word : Outcome → List ℕ
 outcome_word Ended = codes "ENDED"
 outcome_word (Faulted fault point) = fault_word fault
 
--- `JOB j SIG BLOCK v1 v2 Fn ENDED`: the job's number, its entry, its values, its forlopp and how it ended
+-- `JOB j SIG BLOCK v1 v2 Fn ENDED`: the job's number, its entry, its values, its forlopp and how it
+-- ended
 abbrev pub job_line : Exchange → TracedJob → List ℕ
 job_line x t =
-    codes "JOB " ++ decimal t.number ++ codes " " ++ name_of_entry x t.start.job.entry ++ value_words t.start.job.values ++ codes " F" ++ decimal t.start.job.forlopp ++ codes " " ++ outcome_word t.outcome
+    codes "JOB " ++ decimal t.number ++ codes " " ++ name_of_entry x t.start.job.entry
+    ++ value_words t.start.job.values ++ codes " F" ++ decimal t.start.job.forlopp ++ codes " "
+    ++ outcome_word t.outcome
 
 -- where a signal goes: to an entry, or out of the exchange
 abbrev pub place_words : Exchange → SendTo → List ℕ
@@ -37,7 +40,8 @@ forlopp_word forlopp _ = codes "F" ++ decimal forlopp
 -- `SEND j SIG BLOCK v1 Fn`: the job's number, where the signal goes, its values and its forlopp
 abbrev pub send_line : Exchange → (number forlopp : ℕ) → Sent → List ℕ
 send_line x number forlopp s =
-    codes "SEND " ++ decimal number ++ codes " " ++ place_words x s.to ++ value_words s.values ++ codes " " ++ forlopp_word forlopp s.to
+    codes "SEND " ++ decimal number ++ codes " " ++ place_words x s.to ++ value_words s.values
+    ++ codes " " ++ forlopp_word forlopp s.to
 
 abbrev pub send_text : Exchange → (number forlopp : ℕ) → Sent → List ℕ
 send_text x number forlopp s = written (send_line x number forlopp s)

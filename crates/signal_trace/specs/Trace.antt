@@ -1,8 +1,9 @@
 -- The jobs of the single run that a filter shows.
 --
--- Jobs are numbered from 1, in the order in which they end. A line of a filter shows a job that agrees with all that it names,
--- and a filter shows what some line of it shows.
-use Rattle.std.specs.Prelude.{ℕ, ◌+◌, nat_eq, nat_le, Bool, true, false, not, ◌&&◌, ◌||◌, List, Option, Some, None, slice_get}
+-- Jobs are numbered from 1, in the order in which they end. A line of a filter shows a job that
+-- agrees with all that it names, and a filter shows what some line of it shows.
+use Rattle.std.specs.Prelude.{ℕ, ◌+◌, nat_eq, nat_le, Bool, true, false, not, ◌&&◌, ◌||◌, List}
+use Rattle.std.specs.Prelude.{Option, Some, None, slice_get}
 use Rattle.std.specs.List.{filter, filter_map, list_any, range_with_len}
 use Rattle.std.specs.Option.{option_map, option_map_or}
 use Rattle.exchange_model.specs.declared.entry.Entry.{Entry}
@@ -39,15 +40,19 @@ abbrev pub is_fault : Outcome → Bool
 is_fault Ended = false
 is_fault (Faulted fault point) = true
 
--- a line shows a job of this entry and forlopp, of this number, that ended so: it is in the span, and agrees with all that is named
+-- a line shows a job of this entry and forlopp, of this number, that ended so: it is in the span,
+-- and agrees with all that is named
 abbrev pub shows : Entry → (forlopp number : ℕ) → Outcome → Show → Bool
 shows e forlopp number outcome l =
-    (is_from l.from number && is_upto l.upto number) && (agrees l.block e.block && (agrees l.signal e.signal && ((not l.faults || is_fault outcome) && agrees l.forlopp forlopp)))
+    (is_from l.from number && is_upto l.upto number)
+    && (agrees l.block e.block && (agrees l.signal e.signal
+    && ((not l.faults || is_fault outcome) && agrees l.forlopp forlopp)))
 
 -- some line shows a job of this number that started and ended so
 abbrev pub shows_job : Exchange → List Show → ℕ → JobStart → Outcome → Bool
 shows_job x ls number start outcome =
-    option_map_or (λ e. list_any (shows e start.job.forlopp number outcome) ls) (slice_get x.entries start.job.entry) false
+    option_map_or (λ e. list_any (shows e start.job.forlopp number outcome) ls)
+    (slice_get x.entries start.job.entry) false
 
 -- some line shows a job
 abbrev pub is_shown : Exchange → List Show → TracedJob → Bool
@@ -57,13 +62,16 @@ is_shown x ls t = shows_job x ls t.number t.start t.outcome
 
 -- a job of this number that started so and left this
 abbrev pub traced : ℕ → JobStart → JobDone → TracedJob
-traced number start done = record { number = number; start = start; sends = done.sends; outcome = done.outcome }
+traced number start done =
+    record { number = number; start = start; sends = done.sends; outcome = done.outcome }
 
 -- the job that begins in a state, if one does
 abbrev pub next_job : Exchange → State → Option TracedJob
-next_job x s = option_map (λ start. traced (s.ended + 1) start (left_by x start s.store)) (next_start s)
+next_job x s = option_map (λ start. traced (s.ended + 1) start (left_by x start s.store))
+    (next_start s)
 
--- the first jobs, so many, of the single run from a state: each begins in the state after those before it
+-- the first jobs, so many, of the single run from a state: each begins in the state after those
+-- before it
 unfoldable pub first_jobs : Exchange → State → ℕ → List TracedJob
 first_jobs x first n = filter_map (λ i. next_job x (after x first i)) (range_with_len 0 n)
 

@@ -21,4 +21,7 @@ shown_next x ls s = option_map_or (one_if_shown x ls) (next_job x s) []
 
 -- the jobs that are shown so far, once a tracer has been told of one more
 abbrev pub told : Tracer → Exchange → ℕ → JobStart → JobDone → Tracer
-told t x number start done = record t { text = t.text ++ trace_text x (one_if_shown x t.shows.now (traced number start done)) }
+told t x number start done = record t {
+  text = t.text
+      ++ trace_text x (one_if_shown x t.shows.now (traced number start done));
+}

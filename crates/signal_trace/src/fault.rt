@@ -10,7 +10,8 @@ pub struct FilterFault {
     pub rule: FilterRule,
 }
 
-/// The rules of a filter (docs/FORMATS.md, Filter and trace), in the order in which a line is looked at.
+/// The rules of a filter (docs/FORMATS.md, Filter and trace), in the order in which a line is
+/// looked at.
 #[derive(Clone, Copy, Debug)]
 pub enum FilterRule {
     /// The text has more than 16,777,216 bytes; told where it is read from a file.

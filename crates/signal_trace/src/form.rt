@@ -60,7 +60,8 @@ pub fn asked_of(line: &[u8]) -> Option<Asked<'_>>
     })
 }
 
-/// The name behind this word, where a line goes on with it; `None` where nothing stands behind the word.
+/// The name behind this word, where a line goes on with it; `None` where nothing stands behind the
+/// word.
 fn name_part<'a>(line: &'a [u8], word: &[u8]) -> Option<NamePart<'a>>
     ensures { MatchOption result
         (part word.now Some (words line.now) ≡ None)
@@ -87,7 +88,8 @@ fn name_part<'a>(line: &'a [u8], word: &[u8]) -> Option<NamePart<'a>>
     }
 }
 
-/// The number behind this word, where a line goes on with it; `None` where no number stands behind the word.
+/// The number behind this word, where a line goes on with it; `None` where no number stands behind
+/// the word.
 fn number_part<'a>(line: &'a [u8], word: &[u8]) -> Option<NumberPart<'a>>
     ensures { MatchOption result
         (part word.now number_of (words line.now) ≡ None)
@@ -117,7 +119,8 @@ fn number_part<'a>(line: &'a [u8], word: &[u8]) -> Option<NumberPart<'a>>
     }
 }
 
-/// Whether a line ends with `FAULTS`; `None` where it ends in another way than this or with nothing.
+/// Whether a line ends with `FAULTS`; `None` where it ends in another way than this or with
+/// nothing.
 fn faults_part(line: &[u8]) -> Option<bool>
     ensures { result ≡ ending (words line.now) }
 {

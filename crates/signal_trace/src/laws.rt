@@ -24,7 +24,8 @@ pub fn no_lines_show_nothing()
     ensures { (x : Exchange) (limit : ℕ) (first : State) → trace x limit first [] ≡ [] }
 {}
 
-/// The full trace of a run that begins before the first job has ended has each job that ends, in order, and no other.
+/// The full trace of a run that begins before the first job has ended has each job that ends, in
+/// order, and no other.
 pub fn all_jobs_are_traced()
     ensures { (x : Exchange) (limit : ℕ) (first : State) → first.ended ≡ 0
         → map (λ (t : TracedJob). t.number) (full_trace x limit first)

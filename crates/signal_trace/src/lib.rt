@@ -1,9 +1,10 @@
 // The jobs of the single run that a filter shows.
 //
-// What goes in: an exchange, the text of a filter, and books and stored words of a valid state in which no job has ended, with
-// the code that runs the jobs. What comes out: the lines of the filter, or its first faulty line with its first fault; the text of
-// each job that some line shows, with how it starts, what it sends and how it ends, which is all that is kept of it; and the books and
-// words at the end of the run. It knows neither files nor reports, and runs one job at a time.
+// What goes in: an exchange, the text of a filter, and books and stored words of a valid state in
+// which no job has ended, with the code that runs the jobs. What comes out: the lines of the
+// filter, or its first faulty line with its first fault; the text of each job that some line shows,
+// with how it starts, what it sends and how it ends, which is all that is kept of it; and the books
+// and words at the end of the run. It knows neither files nor reports, and runs one job at a time.
 #![tactic(auto)]
 
 mod fault;

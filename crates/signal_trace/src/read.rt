@@ -10,8 +10,8 @@ use signal_file::Known;
 use std::alloc::Global;
 use text_lines::next_line;
 
-/// The lines of a filter of at most 16 MiB, in order, without those that are skipped; or its first fault. It stops where memory is
-/// refused.
+/// The lines of a filter of at most 16 MiB, in order, without those that are skipped; or its first
+/// fault. It stops where memory is refused.
 #[tactic(auto, using(crate::proofs::Behind::file_read))]
 pub fn read_filter(
     alloc: Global,

@@ -22,9 +22,9 @@ pub struct Traced {
     pub end: Ended,
 }
 
-/// Runs the jobs of an exchange to the end of the single run, one at a time, each by the runner, and
-/// tells of those that a filter shows. No job may have ended or run in the books, and books and words
-/// must stand for a valid state. Memory is the only reason for an error.
+/// Runs the jobs of an exchange to the end of the single run, one at a time, each by the runner,
+/// and tells of those that a filter shows. No job may have ended or run in the books, and books and
+/// words must stand for a valid state. Memory is the only reason for an error.
 pub fn trace_run<R: Runner>(
     alloc: Global,
     exchange: &Exchange,

@@ -2,11 +2,13 @@
 //
 // What a line names but its span is its key. At most 16 keys agree with a job: for each of them the
 // rows are searched for the last one whose span has begun.
-ghost use Rattle.std.specs.Prelude.{◌≡◌, ◌<◌, ◌&&◌, Some, IfOk, if◌then◌else◌, length, map, max, nat_le, slice_get};
+ghost use Rattle.std.specs.Prelude.{◌≡◌, ◌<◌, ◌&&◌, Some, IfOk, if◌then◌else◌, length, map, max};
+ghost use Rattle.std.specs.Prelude.{nat_le, slice_get};
 ghost use Rattle.std.specs.List.{list_any};
 ghost use Rattle.std.specs.List.Sorted.{IsPermutation};
 ghost use Rattle.signal_trace.specs.Trace.{is_fault, shows};
-ghost use Rattle.signal_trace.specs.Table.{AreCounted, AreLasts, AreRising, IsLast, has_key, key_with, keys_for, reaches, row_of, same_key, some_has};
+ghost use Rattle.signal_trace.specs.Table.{AreCounted, AreLasts, AreRising, IsLast, has_key};
+ghost use Rattle.signal_trace.specs.Table.{key_with, keys_for, reaches, row_of, same_key, some_has};
 
 use crate::show::Show;
 use exchange_model::Entry;
@@ -15,7 +17,8 @@ use plex_num::{Memory, Seq};
 use std::alloc::Global;
 use std::marker::Model;
 
-/// What a line names beside its span of jobs: the block and the signal of an entry, a forlopp, and that a job ended by a fault.
+/// What a line names beside its span of jobs: the block and the signal of an entry, a forlopp, and
+/// that a job ended by a fault.
 #[derive(Clone, Copy, PartialEq, Eq, PartialOrd, Ord)]
 pub struct Key {
     pub block: Option<u32>,
@@ -91,8 +94,8 @@ fn in_order(rows: Seq<Row>) -> Seq<Row>
     Seq::from_vec(items)
 }
 
-/// How far the spans of a row's key reach, up to that row: those of `before`, the key of the row before it, reach up to `last`
-/// so far.
+/// How far the spans of a row's key reach, up to that row: those of `before`, the key of the row
+/// before it, reach up to `last` so far.
 fn joined(before: Key, last: u64, row: Row) -> u64
     ensures { result
         ≡ (if same_key before row.start.key then max last row.upto else row.upto) }
@@ -149,7 +152,8 @@ fn count_upto(rows: &[Row], start: Start) -> usize
     rows.partition_point(|row| row.start <= start)
 }
 
-/// Whether a row is of this key, and its spans reach up to the job of this number: `last` is how far they reach.
+/// Whether a row is of this key, and its spans reach up to the job of this number: `last` is how
+/// far they reach.
 fn is_of(row: Row, last: u64, key: Key, number: u64) -> bool
     ensures { result ≡ (same_key row.start.key key && nat_le number last) }
 {
@@ -169,7 +173,8 @@ fn some_reaches(rows: &[Row], lasts: &[u64], key: Key, number: u64) -> bool
     is_of(row_at(rows, count - 1), lasts[count - 1], key, number)
 }
 
-/// The lines of a filter, in a table, whose memory is linear in them. A job takes a look-up for each key that agrees with it.
+/// The lines of a filter, in a table, whose memory is linear in them. A job takes a look-up for
+/// each key that agrees with it.
 pub struct ShowTable<'a> {
     shows: &'a Seq<Show>,
     rows: Seq<Row>,
@@ -218,8 +223,8 @@ impl<'a> ShowTable<'a> {
             || (faulted && self.with_keys(entry, forlopp, true, number))
     }
 
-    /// Whether some line has the job of this number in its span, and a key that agrees with the job:
-    /// one that names that it ended by a fault, or one that does not.
+    /// Whether some line has the job of this number in its span, and a key that agrees with the
+    /// job: one that names that it ended by a fault, or one that does not.
     fn with_keys(&self, entry: Entry, forlopp: u64, faults: bool, number: u64) -> bool
         ensures { result ≡ some_has self.now number (keys_for entry forlopp faults) }
     {

@@ -1,7 +1,8 @@
 // The text of a job that a filter shows.
 ghost use Rattle.std.specs.Prelude.{◌≡◌, ◌++◌, OnOk};
 ghost use Rattle.report_text.specs.Report.{written};
-ghost use Rattle.signal_trace.specs.Text.{forlopp_word, job_line, job_text, outcome_word, place_words, send_text, sends_text};
+ghost use Rattle.signal_trace.specs.Text.{forlopp_word, job_line, job_text, outcome_word};
+ghost use Rattle.signal_trace.specs.Text.{place_words, send_text, sends_text};
 
 use crate::tracer::TracedJob;
 use exchange_model::Exchange;
@@ -9,7 +10,8 @@ use job_types::{Outcome, SendTo, Sent};
 use plex_num::{Memory, Seq, add_number};
 use report_text::{add_values, fault_word};
 
-/// The lines of a job: its own, and then one for each signal that it sent. Memory is the only reason for an error.
+/// The lines of a job: its own, and then one for each signal that it sent. Memory is the only
+/// reason for an error.
 pub fn add_job(text: &mut Seq<u8>, exchange: &Exchange, job: &TracedJob) -> Result<(), Memory>
     ensures { OnOk result (text.new ≡ text.old ++ job_text exchange.now job.now) }
 {

@@ -11,8 +11,8 @@ use plex_num::{Memory, Seq};
 use std::alloc::Global;
 use text_parts::Text;
 
-/// A job of a run: its number, from 1, in the order in which the jobs ended; how it started; the signals that it sent, in order;
-/// and how it ended.
+/// A job of a run: its number, from 1, in the order in which the jobs ended; how it started; the
+/// signals that it sent, in order; and how it ended.
 pub struct TracedJob {
     pub number: u64,
     pub start: JobStart,

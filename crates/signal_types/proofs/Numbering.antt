@@ -1,5 +1,6 @@
 -- The signals of the first declarations.
-use Rattle.std.proofs.Common.{◌≡◌, ℕ, ◌+◌, ◌<◌, ◌≤◌, List, [], ◌∷◌, ◌++◌, length, take, get_or, sym, ◌∙◌, ap, arith, length-append}
+use Rattle.std.proofs.Common.{◌≡◌, ℕ, ◌+◌, ◌<◌, ◌≤◌, List, [], ◌∷◌, ◌++◌, length, take, get_or, sym}
+use Rattle.std.proofs.Common.{◌∙◌, ap, arith, length-append}
 use Rattle.std.proofs.Math.Nat.{add-zero, zero-add}
 use Rattle.std.proofs.lemmas.List.{append_assoc, append-nil, take_all}
 use Rattle.first_fault.proofs.First.{more_events}
@@ -9,13 +10,19 @@ use Rattle.plex_ast.specs.declared.tree.Signal.{Signal}
 use Rattle.signal_types.specs.Signals.{shape_kinds, kinds_of, signals_from}
 
 -- a combined signal and its answer
-pub combined_more : (old first new : List SignalKind) (name : List ℕ) (values : ℕ) (answer : List ℕ) (answer_values number : ℕ) (x y : SignalKind) → number ≡ length old → x ≡ signal.Combined name values (number + 1) → y ≡ signal.Answer answer answer_values number → first ≡ old ++ x ∷ [] → new ≡ first ++ y ∷ [] → new ≡ old ++ signal.Combined name values (length old + 1) ∷ signal.Answer answer answer_values (length old) ∷ []
+pub combined_more : (old first new : List SignalKind) (name : List ℕ) (values : ℕ) (answer : List ℕ)
+    (answer_values number : ℕ) (x y : SignalKind) → number ≡ length old → x ≡ signal.Combined name values (number + 1)
+    → y ≡ signal.Answer answer answer_values number → first ≡ old ++ x ∷ [] → new ≡ first ++ y ∷ []
+    → new ≡ old ++ signal.Combined name values (length old + 1) ∷ signal.Answer answer answer_values (length old) ∷ []
 combined_more old first new name values answer answer_values number x y n p q a b =
-    b ∙ ap (λ l. l ++ y ∷ []) a ∙ append_assoc old (x ∷ []) (y ∷ []) ∙ ap (λ k. old ++ k ∷ y ∷ []) p ∙ ap (λ k. old ++ signal.Combined name values (number + 1) ∷ k ∷ []) q
+    b ∙ ap (λ l. l ++ y ∷ []) a ∙ append_assoc old (x ∷ []) (y ∷ []) ∙ ap (λ k. old ++ k ∷ y ∷ []) p
+    ∙ ap (λ k. old ++ signal.Combined name values (number + 1) ∷ k ∷ []) q
     ∙ ap (λ m. old ++ signal.Combined name values (m + 1) ∷ signal.Answer answer answer_values m ∷ []) n
 
 -- one declaration more takes the next number
-signals_push : (number : ℕ) (signals : List Signal) (s : Signal) → signals_from number (signals ++ s ∷ []) ≡ signals_from number signals ++ kinds_of (number + length (signals_from number signals)) s
+signals_push : (number : ℕ) (signals : List Signal) (s : Signal)
+    → signals_from number (signals ++ s ∷ []) ≡ signals_from number signals
+    ++ kinds_of (number + length (signals_from number signals)) s
 unfolding signals_from
 signals_push number [] s = append-nil (kinds_of number s) ∙ ap (λ n. kinds_of n s) (sym (add-zero number))
 signals_push number (t ∷ rest) s =
@@ -35,10 +42,14 @@ pub kinds_begin : (signals : List Signal) (list : List SignalKind) → list ≡ 
 unfolding signals_from
 kinds_begin signals list none = record { same = none }
 
-pub kinds_step : (signals : List Signal) (i : ℕ) (s : Signal) (old new : List SignalKind) → i < length signals → s ≡ get_or signals i s → new ≡ old ++ shape_kinds (length old) s.name.name s.shape.kind → Listed signals i old → Listed signals (i + 1) new
+pub kinds_step : (signals : List Signal) (i : ℕ) (s : Signal) (old new : List SignalKind) → i < length signals
+    → s ≡ get_or signals i s → new ≡ old ++ shape_kinds (length old) s.name.name s.shape.kind → Listed signals i old
+    → Listed signals (i + 1) new
 kinds_step signals i s old new inside is e g = record {
   same = e ∙ ap (λ l. l ++ kinds_of (length l) s) g.same
-      ∙ ap (λ n. signals_from 0 (take i signals) ++ kinds_of n s) (sym (zero-add (length (signals_from 0 (take i signals))))) ∙ sym (signals_push 0 (take i signals) s) ∙ ap (signals_from 0) (sym (more_events signals i s inside is));
+      ∙ ap (λ n. signals_from 0 (take i signals) ++ kinds_of n s)
+      (sym (zero-add (length (signals_from 0 (take i signals))))) ∙ sym (signals_push 0 (take i signals) s)
+      ∙ ap (signals_from 0) (sym (more_events signals i s inside is));
 }
 
 pub kinds_end : (signals : List Signal) (i : ℕ) (list : List SignalKind) → length signals ≤ i → Listed signals i list → list ≡ signals_from 0 signals

@@ -9,7 +9,8 @@ use plex_num::{Memory, Seq};
 use std::alloc::Global;
 use token_grammar::KeptName;
 
-/// How many values a signal carries, which the rules keep to eight. Memory where 8 bits have no such number.
+/// How many values a signal carries, which the rules keep to eight. Memory where 8 bits have no
+/// such number.
 fn count_of(values: &Numbered) -> Result<u8, Memory>
     ensures { IfOk result (λ count. count ≡ values.now.value) }
 {
@@ -97,8 +98,8 @@ fn add_kinds(list: &mut Seq<SignalKind>, name: &KeptName, kind: &ShapeKind) -> R
     }
 }
 
-/// The signals with their answers, in order. Memory is refused also where there are 2^32 of them or more, and
-/// where one carries more than 255 values.
+/// The signals with their answers, in order. Memory is refused also where there are 2^32 of them or
+/// more, and where one carries more than 255 values.
 #[tactic(auto, using(crate::proofs::Numbering::kinds_begin, crate::proofs::Numbering::kinds_step, crate::proofs::Numbering::kinds_end))]
 pub fn kinds_of_signals(alloc: Global, signals: &[Signal]) -> Result<Seq<SignalKind>, Memory>
     ensures { IfOk result (λ list. list ≡ signals_from 0 signals.now) }

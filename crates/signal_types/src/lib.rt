@@ -1,8 +1,8 @@
 // The signals of a text, and the table in which they are found by name.
 //
-// What goes in: the signals of a tree. What comes out: the signals of the exchange with their answers, numbered as they are declared
-// (specs/Signals.antt), and a table in which the first of a name is found (specs/Found.antt).
-// It knows no rule, and nothing of what stands in a block.
+// What goes in: the signals of a tree. What comes out: the signals of the exchange with their
+// answers, numbered as they are declared (specs/Signals.antt), and a table in which the first of a
+// name is found (specs/Found.antt). It knows no rule, and nothing of what stands in a block.
 #![tactic(auto)]
 
 mod kinds;

@@ -67,7 +67,9 @@ fn no_numbers(alloc: Global, seed: Seed) -> IndexMap<Name, u32, Seed>
 /// Takes in a signal's name with its number; a name that is there keeps its number.
 #[tactic(auto, using(crate::proofs::Found::note_kept, crate::proofs::Found::note_new))]
 fn note(numbers: &mut IndexMap<Name, u32, Seed>, name: &Name, number: u32) -> Result<(), Memory>
-    ensures { OnOk result ((n : List ℕ) → get bytes_eq numbers.new n ≡ or_else (get bytes_eq numbers.old n) (if bytes_eq name.now n then Option.Some number else Option.None)) }
+    ensures { OnOk result ((n : List ℕ) → get bytes_eq numbers.new n
+        ≡ or_else (get bytes_eq numbers.old n)
+        (if bytes_eq name.now n then Option.Some number else Option.None)) }
 {
     if numbers.get(name).is_some() {
         return Ok(());
@@ -79,12 +81,13 @@ fn note(numbers: &mut IndexMap<Name, u32, Seed>, name: &Name, number: u32) -> Re
 }
 
 impl<'a> SignalTable<'a> {
-    /// The table of these signals, with a seed that hangs on their names. Memory is refused also where there are 2^32 of
-    /// them or more.
+    /// The table of these signals, with a seed that hangs on their names. Memory is refused also
+    /// where there are 2^32 of them or more.
     #[tactic(auto, using(crate::proofs::Found::table_begin, crate::proofs::Found::table_more, crate::proofs::Found::table_end))]
     pub fn of(alloc: Global, kinds: &'a [SignalKind], seed: Seed) -> Result<SignalTable<'a>, Memory>
         ensures kinds { IfOk result (λ s. s.kinds.now ≡ kinds.now) }
-        ensures numbers { IfOk result (λ s. (n : List ℕ) → get bytes_eq s.numbers n ≡ number_in kinds.now n) }
+        ensures numbers { IfOk result (λ s. (n : List ℕ)
+            → get bytes_eq s.numbers n ≡ number_in kinds.now n) }
     {
         let mut numbers = no_numbers(alloc, seed);
         let mut number = 0;
@@ -112,8 +115,12 @@ impl<'a> SignalTable<'a> {
 
     /// The first signal of this name.
     pub fn kind(&self, name: &KeptName) -> Option<&'a SignalKind>
-        ensures kept { MatchOption result (kind_at self.now.kinds.now (get bytes_eq self.now.numbers name.now) ≡ Option.None) (λ k. kind_at self.now.kinds.now (get bytes_eq self.now.numbers name.now) ≡ Option.Some k.now) }
-        ensures found { MatchOption result (kind_in self.now.kinds.now name.now ≡ Option.None) (λ k. kind_in self.now.kinds.now name.now ≡ Option.Some k.now) }
+        ensures kept { MatchOption result (kind_at self.now.kinds.now
+            (get bytes_eq self.now.numbers name.now) ≡ Option.None)
+            (λ k. kind_at self.now.kinds.now (get bytes_eq self.now.numbers name.now)
+            ≡ Option.Some k.now) }
+        ensures found { MatchOption result (kind_in self.now.kinds.now name.now ≡ Option.None)
+            (λ k. kind_in self.now.kinds.now name.now ≡ Option.Some k.now) }
     {
         match self.number(name) {
             Some(number) => self.kinds.get(number as usize),

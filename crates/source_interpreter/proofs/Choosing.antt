@@ -1,5 +1,6 @@
 -- The choice of a CASE stands at the first place that has its number.
-use Rattle.std.proofs.Common.{◌≡◌, ℕ, suc, ◌+◌, ◌≤◌, Bool, true, false, not, nat_eq, List, [], ◌∷◌, length, map, Option, Some, refl, ap, ◌∙◌, sym, subst, arith}
+use Rattle.std.proofs.Common.{◌≡◌, ℕ, suc, ◌+◌, ◌≤◌, Bool, true, false, not, nat_eq, List, [], ◌∷◌}
+use Rattle.std.proofs.Common.{length, map, Option, Some, refl, ap, ◌∙◌, sym, subst, arith}
 use Rattle.std.specs.Prelude.{if◌then◌else◌, cond, slice_get, IfSome}
 use Rattle.std.specs.List.{AllByRecursion, position_or_len}
 use Rattle.std.specs.Option.{option_map_or}
@@ -15,7 +16,9 @@ use Rattle.source_interpreter.specs.Kept.{AreOfText, AreWhensOfText}
 abbrev pub body_of : When → List Stmt
 body_of w = (out-When w).body
 
-pub chosen_at : (whens : List When) (v : ℕ) (otherwise : List Stmt) → chosen whens v otherwise ≡ option_map_or body_of (slice_get whens (position_or_len (λ n. nat_eq n v) (numbers_of whens))) otherwise
+pub chosen_at : (whens : List When) (v : ℕ) (otherwise : List Stmt)
+    → chosen whens v otherwise ≡ option_map_or body_of
+    (slice_get whens (position_or_len (λ n. nat_eq n v) (numbers_of whens))) otherwise
 chosen_at [] v otherwise = refl
 chosen_at (w ∷ ws) v otherwise = by (nat_eq (out-When w).number v) (chosen_at ws v otherwise)
   where
@@ -25,7 +28,9 @@ chosen_at (w ∷ ws) v otherwise = by (nat_eq (out-When w).number v) (chosen_at 
     next : suc place ≡ 1 + place
     next = omega arith
 
-    by : (b : Bool) → chosen ws v otherwise ≡ option_map_or body_of (slice_get ws place) otherwise → (if b then (out-When w).body else chosen ws v otherwise) ≡ option_map_or body_of (slice_get (w ∷ ws) (cond (not b) (1 + place) 0)) otherwise
+    by : (b : Bool) → chosen ws v otherwise ≡ option_map_or body_of (slice_get ws place) otherwise
+        → (if b then (out-When w).body else chosen ws v otherwise)
+        ≡ option_map_or body_of (slice_get (w ∷ ws) (cond (not b) (1 + place) 0)) otherwise
     by true h = refl
     by false h = h ∙ ap (λ i. option_map_or body_of (slice_get (w ∷ ws) i) otherwise) next
 
@@ -41,17 +46,20 @@ module _ (whens : List When) (v : ℕ) (otherwise : List Stmt) (place : ℕ) (is
   chosen_nowhere past = sym (at_place ∙ ap (λ o. option_map_or body_of o otherwise) (slice_get_past whens place past))
 
 -- the table that is found is the CASE's own
-pub table_own : (cases : Cases) (point : ℕ) (whens : List When) (keys : List ℕ) → FindsOwn cases point whens → Some keys ≡ table_at cases point → IsTable (numbers_of whens) keys
+pub table_own : (cases : Cases) (point : ℕ) (whens : List When) (keys : List ℕ) → FindsOwn cases point whens
+    → Some keys ≡ table_at cases point → IsTable (numbers_of whens) keys
 table_own cases point whens keys own is = subst (λ o. IfSome o (λ ks. IsTable (numbers_of whens) ks)) (sym is) own.table
 
 -- what is chosen is of the text
-pub of_chosen : (cases : Cases) (whens : List When) (v : ℕ) (otherwise body : List Stmt) → body ≡ chosen whens v otherwise → AreWhensOfText cases whens → AreOfText cases otherwise → AreOfText cases body
+pub of_chosen : (cases : Cases) (whens : List When) (v : ℕ) (otherwise body : List Stmt)
+    → body ≡ chosen whens v otherwise → AreWhensOfText cases whens → AreOfText cases otherwise → AreOfText cases body
 of_chosen cases whens v otherwise body is choices other = subst (AreOfText cases) (sym is) (by whens choices)
   where
     by : (ws : List When) → AreWhensOfText cases ws → AreOfText cases (chosen ws v otherwise)
     by [] h = other
     by (w ∷ ws) h = one (nat_eq (out-When w).number v) h.0 (by ws h.1)
       where
-        one : (b : Bool) → AreOfText cases (out-When w).body → AreOfText cases (chosen ws v otherwise) → AreOfText cases (if b then (out-When w).body else chosen ws v otherwise)
+        one : (b : Bool) → AreOfText cases (out-When w).body → AreOfText cases (chosen ws v otherwise)
+            → AreOfText cases (if b then (out-When w).body else chosen ws v otherwise)
         one true here later = here
         one false here later = later

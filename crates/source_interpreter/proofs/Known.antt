@@ -1,4 +1,5 @@
--- That a statement and all those in it find their own tables, opened and made: one layer, and the same of each of its parts.
+-- That a statement and all those in it find their own tables, opened and made: one layer, and the
+-- same of each of its parts.
 use Rattle.std.proofs.Common.{ℕ, List, [], ◌∷◌}
 use Rattle.std.specs.List.{AllByRecursion}
 use Rattle.plex_num.proofs.Lists.{all_weaker}
@@ -9,7 +10,8 @@ use Rattle.exchange_model.specs.declared.stmt.StmtKind.TheOpen as layer
 use Rattle.exchange_model.specs.Everywhere.{Layer, Everywhere, AllIn, PartsKeep}
 use Rattle.exchange_model.proofs.Everywhere.{everywhere-own, everywhere-parts, everywhere-built}
 use Rattle.source_interpreter.specs.declared.cases.Cases.{Cases}
-use Rattle.source_interpreter.specs.Cases.{AllOwn, AreKnown, IsKnown, IsOwn, LayerKnown, LayerOwn, ListsOwn, WhenKnown}
+use Rattle.source_interpreter.specs.Cases.{AllOwn, AreKnown, IsKnown, IsOwn, LayerKnown, LayerOwn}
+use Rattle.source_interpreter.specs.Cases.{ListsOwn, WhenKnown}
 
 module _ (cases : Cases) where
   -- a list, by its own statements and by those in them
@@ -24,7 +26,8 @@ module _ (cases : Cases) where
   both [] own inner = tt
   both (s ∷ rest) own inner = (record { own = own.0; inner = inner.0 }, both rest own.1 inner.1)
 
-  whens_both : (whens : List When) → AllByRecursion (λ w. AllOwn cases (out-When w).body) whens → AllByRecursion (λ w. AllIn (ListsOwn cases) (out-When w).body) whens → AllByRecursion (WhenKnown cases) whens
+  whens_both : (whens : List When) → AllByRecursion (λ w. AllOwn cases (out-When w).body) whens
+      → AllByRecursion (λ w. AllIn (ListsOwn cases) (out-When w).body) whens → AllByRecursion (WhenKnown cases) whens
   whens_both [] own inner = tt
   whens_both (w ∷ rest) own inner = (both (out-When w).body own.0 inner.0, whens_both rest own.1 inner.1)
 
@@ -71,4 +74,5 @@ module _ (cases : Cases) where
   layer_known point _ own lists inner = tt
 
   pub known_opened : (s : Stmt) → IsKnown cases s → LayerKnown cases s.point (out-StmtKind s.kind)
-  known_opened s known = layer_known s.point (out-StmtKind s.kind) known.own (everywhere-own (ListsOwn cases) s.kind known.inner) (everywhere-parts (ListsOwn cases) s.kind known.inner)
+  known_opened s known = layer_known s.point (out-StmtKind s.kind) known.own
+      (everywhere-own (ListsOwn cases) s.kind known.inner) (everywhere-parts (ListsOwn cases) s.kind known.inner)

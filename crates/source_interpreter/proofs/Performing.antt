@@ -1,5 +1,6 @@
 -- What a statement has inside it, and how it is done by its kind.
-use Rattle.std.proofs.Common.{◌≡◌, ℕ, ◌≤◌, Bool, ◌⊎◌, inl, inr, refl, List, [], ◌∷◌, length, Option, Some, None, slice_get, ap, sym, ◌∙◌, subst, arith}
+use Rattle.std.proofs.Common.{◌≡◌, ℕ, ◌≤◌, Bool, ◌⊎◌, inl, inr, refl, List, [], ◌∷◌, length, Option}
+use Rattle.std.proofs.Common.{Some, None, slice_get, ap, sym, ◌∙◌, subst, arith}
 use Rattle.std.specs.List.{AllByRecursion}
 use Rattle.plex_limits.specs.declared.limits.TheConstants.{MOST_BLOCKS, MOST_VALUES}
 use Rattle.plex_num.proofs.Lists.{all_at}
@@ -7,7 +8,8 @@ use Rattle.exchange_model.specs.declared.expr.Cond.{Cond}
 use Rattle.exchange_model.specs.declared.expr.Expr.{Expr}
 use Rattle.exchange_model.specs.declared.expr.Rel.{Rel}
 use Rattle.exchange_model.specs.declared.signal.SignalKind.{SignalKind}
-use Rattle.exchange_model.specs.declared.signal.SignalKind.TheVariants.{Buffered, Direct, Combined, Answer as Answers, Outside}
+use Rattle.exchange_model.specs.declared.signal.SignalKind.TheVariants.{Buffered, Direct, Combined}
+use Rattle.exchange_model.specs.declared.signal.SignalKind.TheVariants.{Answer as Answers, Outside}
 use Rattle.exchange_model.specs.declared.stmt.Receiver.{Receiver}
 use Rattle.exchange_model.specs.declared.stmt.Stmt.{Stmt}
 use Rattle.exchange_model.specs.declared.stmt.When.{When, out-When}
@@ -26,21 +28,25 @@ use Rattle.source_interpreter.specs.Running.{Running}
 use Rattle.source_interpreter.specs.Leaves.{Leaves, Follows, Does}
 use Rattle.source_interpreter.specs.declared.cases.Cases.{Cases}
 use Rattle.source_interpreter.specs.Cases.{FindsOwn, LayerKnown, WhenKnown}
-use Rattle.source_interpreter.specs.Kept.{IsExprOfText, AreExprsOfText, IsCondOfText, IsOfText, AreOfText, AreWhensOfText}
+use Rattle.source_interpreter.specs.Kept.{IsExprOfText, AreExprsOfText, IsCondOfText, IsOfText}
+use Rattle.source_interpreter.specs.Kept.{AreOfText, AreWhensOfText}
 use Rattle.source_interpreter.proofs.Follow.{Answer, start_of}
 use Rattle.source_interpreter.proofs.Known.{known_opened}
 use Rattle.source_interpreter.proofs.Texts.{all_of, of_scope, cond_of}
 
 -- the lists in a statement
 
-module _ (cases : Cases) (s : Stmt) (k : StmtKind) (l : StmtKind-F StmtKind Stmt When) (h : IsOfText cases s) (is : s.kind ≡ k) (outs : out-StmtKind k ≡ l) where
+module _ (cases : Cases) (s : Stmt) (k : StmtKind) (l : StmtKind-F StmtKind Stmt When) (h : IsOfText cases s)
+    (is : s.kind ≡ k) (outs : out-StmtKind k ≡ l) where
   parts : PartsFit h.scope l
   parts = subst (λ m. PartsFit h.scope m) (ap out-StmtKind is ∙ outs) (stmt_fits-parts h.scope s.kind h.fits)
 
   known : LayerKnown cases s.point l
   known = subst (LayerKnown cases s.point) (ap out-StmtKind is ∙ outs) (known_opened cases s h.known)
 
-of_whens : (cases : Cases) (s : Scope) → SignalsKept s.signals → length s.blocks ≤ MOST_BLOCKS → (ws : List When) → AllByRecursion (λ w. StmtsFit s (out-When w).body) ws → AllByRecursion (WhenKnown cases) ws → AreWhensOfText cases ws
+of_whens : (cases : Cases) (s : Scope) → SignalsKept s.signals → length s.blocks ≤ MOST_BLOCKS → (ws : List When)
+    → AllByRecursion (λ w. StmtsFit s (out-When w).body) ws → AllByRecursion (WhenKnown cases) ws
+    → AreWhensOfText cases ws
 of_whens cases s kept few [] h all = tt
 of_whens cases s kept few (w ∷ ws) h all = (of_scope cases s kept few (out-When w).body h.0 all.0, of_whens cases s kept few ws h.1 all.1)
 
@@ -57,7 +63,8 @@ module _ (cases : Cases) (s : Stmt) (cond : Cond) (first other : List Stmt) (h :
   pub if_other_kept : AreOfText cases other
   if_other_kept = of_scope cases h.scope h.signals h.few other if_fits.1 if_known.1
 
-module _ (cases : Cases) (s : Stmt) (e : Expr) (whens : List When) (otherwise : List Stmt) (h : IsOfText cases s) (is : s.kind ≡ kind.Case e whens otherwise) where
+module _ (cases : Cases) (s : Stmt) (e : Expr) (whens : List When) (otherwise : List Stmt) (h : IsOfText cases s)
+    (is : s.kind ≡ kind.Case e whens otherwise) where
   case_fits : PartsFit {K = StmtKind} h.scope (stmt.Case e whens otherwise)
   case_fits = parts cases s (kind.Case e whens otherwise) (stmt.Case e whens otherwise) h is (kind.outs-Case e whens otherwise)
 
@@ -73,17 +80,23 @@ module _ (cases : Cases) (s : Stmt) (e : Expr) (whens : List When) (otherwise : 
   pub table_kept : FindsOwn cases s.point whens
   table_kept = case_known.own
 
-pub body_kept : (cases : Cases) (s : Stmt) (temp : ℕ) (from upto : Expr) (body : List Stmt) → IsOfText cases s → s.kind ≡ kind.On temp from upto body → AreOfText cases body
+pub body_kept : (cases : Cases) (s : Stmt) (temp : ℕ) (from upto : Expr) (body : List Stmt) → IsOfText cases s
+    → s.kind ≡ kind.On temp from upto body → AreOfText cases body
 body_kept cases s temp from upto body h is =
     let fits = parts cases s (kind.On temp from upto body) (stmt.On temp from upto body) h is (kind.outs-On temp from upto body) in
-    of_scope cases h.scope h.signals h.few body fits (known cases s (kind.On temp from upto body) (stmt.On temp from upto body) h is (kind.outs-On temp from upto body))
+    of_scope cases h.scope h.signals h.few body fits
+    (known cases s (kind.On temp from upto body) (stmt.On temp from upto body) h is
+    (kind.outs-On temp from upto body))
 
 -- at most as many values as a signal may have
 
-own : (cases : Cases) (s : Stmt) (k : StmtKind) (l : StmtKind-F StmtKind Stmt When) (h : IsOfText cases s) → s.kind ≡ k → out-StmtKind k ≡ l → LayerFits h.scope l
+own : (cases : Cases) (s : Stmt) (k : StmtKind) (l : StmtKind-F StmtKind Stmt When) (h : IsOfText cases s) → s.kind ≡ k
+    → out-StmtKind k ≡ l → LayerFits h.scope l
 own cases s k l h is outs = subst (λ m. LayerFits h.scope m) (ap out-StmtKind is ∙ outs) (stmt_fits-out h.scope s.kind h.fits)
 
-few_sent_by : (s : Scope) (found : Option SignalKind) (signal : ℕ) (to : Option Receiver) (n : ℕ) (fresh : Bool) → ((k : SignalKind) → found ≡ Some k → signal_count k ≤ MOST_VALUES) → SendFits s found signal to n fresh → n ≤ MOST_VALUES
+few_sent_by : (s : Scope) (found : Option SignalKind) (signal : ℕ) (to : Option Receiver) (n : ℕ) (fresh : Bool)
+    → ((k : SignalKind) → found ≡ Some k → signal_count k ≤ MOST_VALUES) → SendFits s found signal to n fresh
+    → n ≤ MOST_VALUES
 few_sent_by s None signal to n fresh few fits = absurd fits
 few_sent_by s (Some (Buffered name level count)) signal to n fresh few fits = let k = few (Buffered name level count) refl in omega (arith, k, fits.0)
 few_sent_by s (Some (Direct name count)) signal to n fresh few fits = let k = few (Direct name count) refl in omega (arith, k, fits.0)
@@ -91,9 +104,11 @@ few_sent_by s (Some (Combined name count answer)) signal to n fresh few fits = l
 few_sent_by s (Some (Answers name count combined)) signal to n fresh few fits = absurd fits
 few_sent_by s (Some (Outside name count)) signal to n fresh few fits = let k = few (Outside name count) refl in omega (arith, k, fits.0)
 
-pub few_sent : (cases : Cases) (s : Stmt) (signal : ℕ) (to : Option Receiver) (es : List Expr) (fresh : Bool) → IsOfText cases s → s.kind ≡ kind.Send signal to es fresh → length es ≤ MOST_VALUES
+pub few_sent : (cases : Cases) (s : Stmt) (signal : ℕ) (to : Option Receiver) (es : List Expr) (fresh : Bool)
+    → IsOfText cases s → s.kind ≡ kind.Send signal to es fresh → length es ≤ MOST_VALUES
 few_sent cases s signal to es fresh h is =
-    few_sent_by h.scope (slice_get h.scope.signals signal) signal to (length es) fresh (λ k there. all_at (λ s. signal_count s ≤ MOST_VALUES) h.scope.signals signal k h.signals.values there)
+    few_sent_by h.scope (slice_get h.scope.signals signal) signal to (length es) fresh
+    (λ k there. all_at (λ s. signal_count s ≤ MOST_VALUES) h.scope.signals signal k h.signals.values there)
     (own cases s (kind.Send signal to es fresh) (stmt.Send signal to es fresh) h is (kind.outs-Send signal to es fresh)).names
 
 few_answered : (found : Option SignalKind) (n : ℕ) → ((k : SignalKind) → found ≡ Some k → signal_count k ≤ MOST_VALUES) → AnswerFits found n → n ≤ MOST_VALUES
@@ -102,12 +117,14 @@ few_answered _ n few fits = absurd fits
 
 pub few_returned : (cases : Cases) (s : Stmt) (answer : ℕ) (es : List Expr) → IsOfText cases s → s.kind ≡ kind.Return answer es → length es ≤ MOST_VALUES
 few_returned cases s answer es h is =
-    few_answered (slice_get h.scope.signals answer) (length es) (λ k there. all_at (λ s. signal_count s ≤ MOST_VALUES) h.scope.signals answer k h.signals.values there)
+    few_answered (slice_get h.scope.signals answer) (length es)
+    (λ k there. all_at (λ s. signal_count s ≤ MOST_VALUES) h.scope.signals answer k h.signals.values there)
     (own cases s (kind.Return answer es) (stmt.Return answer es) h is (kind.outs-Return answer es)).names
 
 -- its expressions
 
-exprs : (cases : Cases) (s : Stmt) (k : StmtKind) (l : StmtKind-F StmtKind Stmt When) (h : IsOfText cases s) → s.kind ≡ k → out-StmtKind k ≡ l → AreExprsOfText (own_exprs l)
+exprs : (cases : Cases) (s : Stmt) (k : StmtKind) (l : StmtKind-F StmtKind Stmt When) (h : IsOfText cases s)
+    → s.kind ≡ k → out-StmtKind k ≡ l → AreExprsOfText (own_exprs l)
 exprs cases s k l h is outs = all_of ExprFits h.scope h.signals h.few (own_exprs l) (own cases s k l h is outs).exprs.each
 
 pub of_temp : (cases : Cases) (s : Stmt) (temp : ℕ) (e : Expr) → IsOfText cases s → s.kind ≡ kind.SetTemp temp e → IsExprOfText e
@@ -117,7 +134,8 @@ pub of_variable : (cases : Cases) (s : Stmt) (variable : ℕ) (e : Expr) → IsO
 of_variable cases s variable e h is = (exprs cases s (kind.SetVariable variable e) (stmt.SetVariable variable e) h is (kind.outs-SetVariable variable e)).0
 
 pub of_field : (cases : Cases) (s : Stmt) (file field pointer : ℕ) (e : Expr) → IsOfText cases s → s.kind ≡ kind.SetField file field pointer e → IsExprOfText e
-of_field cases s file field pointer e h is = (exprs cases s (kind.SetField file field pointer e) (stmt.SetField file field pointer e) h is (kind.outs-SetField file field pointer e)).0
+of_field cases s file field pointer e h is = (exprs cases s (kind.SetField file field pointer e)
+    (stmt.SetField file field pointer e) h is (kind.outs-SetField file field pointer e)).0
 
 pub of_if_goto : (cases : Cases) (s : Stmt) (cond : Cond) (label : ℕ) → IsOfText cases s → s.kind ≡ kind.IfGoto cond label → IsCondOfText cond
 of_if_goto cases s cond label h is = cond_of cond (exprs cases s (kind.IfGoto cond label) (stmt.IfGoto cond label) h is (kind.outs-IfGoto cond label))
@@ -125,19 +143,27 @@ of_if_goto cases s cond label h is = cond_of cond (exprs cases s (kind.IfGoto co
 pub of_if : (cases : Cases) (s : Stmt) (cond : Cond) (first other : List Stmt) → IsOfText cases s → s.kind ≡ kind.If cond first other → IsCondOfText cond
 of_if cases s cond first other h is = cond_of cond (exprs cases s (kind.If cond first other) (stmt.If cond first other) h is (kind.outs-If cond first other))
 
-pub of_case : (cases : Cases) (s : Stmt) (e : Expr) (whens : List When) (otherwise : List Stmt) → IsOfText cases s → s.kind ≡ kind.Case e whens otherwise → IsExprOfText e
+pub of_case : (cases : Cases) (s : Stmt) (e : Expr) (whens : List When) (otherwise : List Stmt) → IsOfText cases s
+    → s.kind ≡ kind.Case e whens otherwise → IsExprOfText e
 of_case cases s e whens otherwise h is = (exprs cases s (kind.Case e whens otherwise) (stmt.Case e whens otherwise) h is (kind.outs-Case e whens otherwise)).0
 
-pub of_from : (cases : Cases) (s : Stmt) (temp : ℕ) (from upto : Expr) (body : List Stmt) → IsOfText cases s → s.kind ≡ kind.On temp from upto body → IsExprOfText from
+pub of_from : (cases : Cases) (s : Stmt) (temp : ℕ) (from upto : Expr) (body : List Stmt) → IsOfText cases s
+    → s.kind ≡ kind.On temp from upto body → IsExprOfText from
 of_from cases s temp from upto body h is = (exprs cases s (kind.On temp from upto body) (stmt.On temp from upto body) h is (kind.outs-On temp from upto body)).0
 
-pub of_upto : (cases : Cases) (s : Stmt) (temp : ℕ) (from upto : Expr) (body : List Stmt) → IsOfText cases s → s.kind ≡ kind.On temp from upto body → IsExprOfText upto
-of_upto cases s temp from upto body h is = (exprs cases s (kind.On temp from upto body) (stmt.On temp from upto body) h is (kind.outs-On temp from upto body)).1.0
+pub of_upto : (cases : Cases) (s : Stmt) (temp : ℕ) (from upto : Expr) (body : List Stmt) → IsOfText cases s
+    → s.kind ≡ kind.On temp from upto body → IsExprOfText upto
+of_upto cases s temp from upto body h is = (exprs cases s (kind.On temp from upto body) (stmt.On temp from upto body) h
+    is (kind.outs-On temp from upto body)).1.0
 
-pub of_first : (cases : Cases) (s : Stmt) (temp file field : ℕ) (rel : Rel) (e : Expr) (label : ℕ) → IsOfText cases s → s.kind ≡ kind.ForFirst temp file field rel e label → IsExprOfText e
-of_first cases s temp file field rel e label h is = (exprs cases s (kind.ForFirst temp file field rel e label) (stmt.ForFirst temp file field rel e label) h is (kind.outs-ForFirst temp file field rel e label)).0
+pub of_first : (cases : Cases) (s : Stmt) (temp file field : ℕ) (rel : Rel) (e : Expr) (label : ℕ) → IsOfText cases s
+    → s.kind ≡ kind.ForFirst temp file field rel e label → IsExprOfText e
+of_first cases s temp file field rel e label h
+    is = (exprs cases s (kind.ForFirst temp file field rel e label) (stmt.ForFirst temp file field rel e label) h is
+    (kind.outs-ForFirst temp file field rel e label)).0
 
-pub of_send : (cases : Cases) (s : Stmt) (signal : ℕ) (to : Option Receiver) (es : List Expr) (fresh : Bool) → IsOfText cases s → s.kind ≡ kind.Send signal to es fresh → AreExprsOfText es
+pub of_send : (cases : Cases) (s : Stmt) (signal : ℕ) (to : Option Receiver) (es : List Expr) (fresh : Bool)
+    → IsOfText cases s → s.kind ≡ kind.Send signal to es fresh → AreExprsOfText es
 of_send cases s signal to es fresh h is = exprs cases s (kind.Send signal to es fresh) (stmt.Send signal to es fresh) h is (kind.outs-Send signal to es fresh)
 
 pub of_return : (cases : Cases) (s : Stmt) (answer : ℕ) (es : List Expr) → IsOfText cases s → s.kind ≡ kind.Return answer es → AreExprsOfText es
@@ -145,13 +171,16 @@ of_return cases s answer es h is = exprs cases s (kind.Return answer es) (stmt.R
 
 -- a statement is done by its kind
 
-pub by_kind : (s : Stmt) (k : StmtKind) (l : StmtKind-F StmtKind Stmt When) (r r' : Running) (w w' : List ℕ) (o : Answer) → s.kind ≡ k → out-StmtKind k ≡ l → Does l r w o r' w' → Does (out-StmtKind s.kind) r w o r' w'
+pub by_kind : (s : Stmt) (k : StmtKind) (l : StmtKind-F StmtKind Stmt When) (r r' : Running) (w w' : List ℕ)
+    (o : Answer) → s.kind ≡ k → out-StmtKind k ≡ l → Does l r w o r' w' → Does (out-StmtKind s.kind) r w o r' w'
 by_kind s k l r r' w w' o is outs done =
     let P : StmtKind-F StmtKind Stmt When → Type 0 = λ m. Does m r w o r' w' in
     subst P (sym (ap out-StmtKind is ∙ outs)) done
 
 -- both ends of a text are ends of the activation
-ended : (s : Stmt) (k : StmtKind) (l : StmtKind-F StmtKind Stmt When) (r : Running) (w : List ℕ) (o : Answer) → s.kind ≡ k → out-StmtKind k ≡ l → ((c : Config) → does r.exchange r.own.point l r.todo c ≡ ends c.callers c) → ((v : List ℕ) → Follows (ends r.callers) r v o r v) → Does (out-StmtKind s.kind) r w o r w
+ended : (s : Stmt) (k : StmtKind) (l : StmtKind-F StmtKind Stmt When) (r : Running) (w : List ℕ) (o : Answer)
+    → s.kind ≡ k → out-StmtKind k ≡ l → ((c : Config) → does r.exchange r.own.point l r.todo c ≡ ends c.callers c)
+    → ((v : List ℕ) → Follows (ends r.callers) r v o r v) → Does (out-StmtKind s.kind) r w o r w
 ended s k l r w o is outs same follows =
     by_kind s k l r r w w o is outs (record {
       leaves = λ trace todo.
@@ -160,9 +189,30 @@ ended s k l r w o is outs same follows =
           subst P (sym (same c)) ((follows w).leaves trace todo);
     })
 
-pub exits : (s : Stmt) (r : Running) (w : List ℕ) (o : Answer) → (s.kind ≡ kind.Exit) ⊎ (s.kind ≡ kind.Finish) → ((v : List ℕ) → Follows (ends r.callers) r v o r v) → Does (out-StmtKind s.kind) r w o r w
+pub exits : (s : Stmt) (r : Running) (w : List ℕ) (o : Answer) → (s.kind ≡ kind.Exit) ⊎ (s.kind ≡ kind.Finish)
+    → ((v : List ℕ) → Follows (ends r.callers) r v o r v) → Does (out-StmtKind s.kind) r w o r w
 exits s r w o (inl is) follows = ended s kind.Exit stmt.Exit r w o is kind.outs-Exit (λ c. refl) follows
 exits s r w o (inr is) follows = ended s kind.Finish stmt.Finish r w o is kind.outs-Finish (λ c. refl) follows
 
 -- what a statement has inside it
-pub ruleset inside = (if_first_kept, if_other_kept, whens_kept, otherwise_kept, table_kept, body_kept, few_sent, few_returned, of_temp, of_variable, of_field, of_if_goto, of_if, of_case, of_from, of_upto, of_first, of_send, of_return)
+pub ruleset inside = (
+  if_first_kept,
+  if_other_kept,
+  whens_kept,
+  otherwise_kept,
+  table_kept,
+  body_kept,
+  few_sent,
+  few_returned,
+  of_temp,
+  of_variable,
+  of_field,
+  of_if_goto,
+  of_if,
+  of_case,
+  of_from,
+  of_upto,
+  of_first,
+  of_send,
+  of_return,
+)

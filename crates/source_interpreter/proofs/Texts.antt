@@ -1,5 +1,6 @@
 -- What an exchange says of a block, and of the parts of an expression.
-use Rattle.std.proofs.Common.{◌≡◌, ℕ, ◌<◌, ◌≤◌, Bool, true, false, List, [], ◌∷◌, length, map, Option, Some, None, slice_get, refl, sym, ap, ◌∙◌, subst, arith}
+use Rattle.std.proofs.Common.{◌≡◌, ℕ, ◌<◌, ◌≤◌, Bool, true, false, List, [], ◌∷◌, length, map}
+use Rattle.std.proofs.Common.{Option, Some, None, slice_get, refl, sym, ap, ◌∙◌, subst, arith}
 use Rattle.std.specs.Prelude.{nat_eq, ◌||◌, is_some, unwrap_or, if◌then◌else◌}
 use Rattle.std.specs.List.{AllByRecursion, find, list_any}
 use Rattle.std.specs.Option.{option_map, option_map_or}
@@ -20,28 +21,40 @@ use Rattle.exchange_model.specs.Index.{place_in, rows_of, enter_of}
 use Rattle.exchange_model.specs.Inside.{joined, relation_exprs, cond_exprs}
 use Rattle.exchange_model.specs.Kept.{IsExchange, SignalsKept, scope_of}
 use Rattle.exchange_model.specs.PartFits.{TermFits, JoinedFits, InsideFits}
-use Rattle.exchange_model.proofs.Layers.{expr_fits-out, term_fits-out, joined_fits-out, factor_fits-out}
+use Rattle.exchange_model.proofs.Layers.{expr_fits-out, term_fits-out, joined_fits-out}
+use Rattle.exchange_model.proofs.Layers.{factor_fits-out}
 use Rattle.exchange_model.specs.Parts.{Parts}
 use Rattle.source_meaning.specs.Config.{body_of, row_place, enter_place, is_receiver}
 use Rattle.source_interpreter.specs.declared.cases.Cases.{Cases}
 use Rattle.source_interpreter.specs.Cases.{AreKnown, AreTablesOf, BlockKnown}
-use Rattle.source_interpreter.specs.Kept.{IsOf, IsExprOfText, AreExprsOfText, AreTermsOfText, IsFactorOfText, AreFactorsOfText, AreRelationsOfText, IsCondOfText, AreOfText}
+use Rattle.source_interpreter.specs.Kept.{IsOf, IsExprOfText, AreExprsOfText, AreTermsOfText}
+use Rattle.source_interpreter.specs.Kept.{IsFactorOfText, AreFactorsOfText, AreRelationsOfText}
+use Rattle.source_interpreter.specs.Kept.{IsCondOfText, AreOfText}
 use Rattle.source_meaning.proofs.Entering.{row_place_is}
 
 -- all of a list that fit one scope
 
-pub all_of : {X : Type 0} (Fits : Scope → X → Type 0) (s : Scope) → SignalsKept s.signals → length s.blocks ≤ MOST_BLOCKS → (xs : List X) → AllByRecursion (Fits s) xs → AllByRecursion (IsOf Fits) xs
+pub all_of : {X : Type 0} (Fits : Scope → X → Type 0) (s : Scope) → SignalsKept s.signals
+    → length s.blocks ≤ MOST_BLOCKS → (xs : List X) → AllByRecursion (Fits s) xs → AllByRecursion (IsOf Fits) xs
 all_of Fits s signals few [] h = tt
 all_of Fits s signals few (x ∷ xs) h = (record { scope = s; signals = signals; few = few; fits = h.0 }, all_of Fits s signals few xs h.1)
 
-pub of_scope : (cases : Cases) (s : Scope) → SignalsKept s.signals → length s.blocks ≤ MOST_BLOCKS → (ss : List Stmt) → AllByRecursion (λ (one : Stmt). StmtFits s one.kind) ss → AreKnown cases ss → AreOfText cases ss
+pub of_scope : (cases : Cases) (s : Scope) → SignalsKept s.signals → length s.blocks ≤ MOST_BLOCKS → (ss : List Stmt)
+    → AllByRecursion (λ (one : Stmt). StmtFits s one.kind) ss → AreKnown cases ss → AreOfText cases ss
 of_scope cases s signals few [] h known = tt
-of_scope cases s signals few (one ∷ ss) h known = (record { scope = s; signals = signals; few = few; fits = h.0; known = known.0 }, of_scope cases s signals few ss h.1 known.1)
+of_scope cases s signals few (one ∷ ss) h known = (
+  record
+      { scope = s; signals = signals; few = few; fits = h.0; known = known.0 },
+  of_scope cases s signals few ss h.1
+      known.1,
+)
 
 -- the statements of a block are of its text
-pub text_of : (x : Parts) (b : ℕ) (k : Block) → IsExchange x → slice_get x.blocks b ≡ Some k → (cases : Cases) → AreTablesOf cases x.blocks → AreOfText cases k.body
+pub text_of : (x : Parts) (b : ℕ) (k : Block) → IsExchange x → slice_get x.blocks b ≡ Some k → (cases : Cases)
+    → AreTablesOf cases x.blocks → AreOfText cases k.body
 unfolding AreTablesOf
-text_of x b k kept is cases tables = of_scope cases (scope_of x b k) kept.signals kept.blocks.few k.body (kept.blocks.each b k is).statements (all_at (BlockKnown cases) x.blocks b k tables is)
+text_of x b k kept is cases tables = of_scope cases (scope_of x b k) kept.signals kept.blocks.few k.body
+    (kept.blocks.each b k is).statements (all_at (BlockKnown cases) x.blocks b k tables is)
 
 pub no_text : (x : Parts) (b : ℕ) → slice_get x.blocks b ≡ None → [] ≡ body_of x b
 no_text x b is = sym (ap (λ (o : Option Block). option_map_or (λ k. k.body) o []) is)
@@ -52,7 +65,10 @@ any_row : (rows : List Row) (signal : ℕ) → is_some (place_in rows signal) �
 any_row [] signal = refl
 any_row (r ∷ rest) signal = by (nat_eq r.signal signal) (any_row rest signal)
   where
-    by : (b : Bool) → is_some (place_in rest signal) ≡ list_any (λ (q : Row). nat_eq q.signal signal) rest → is_some (option_map (λ (q : Row). q.place) (if b then Some r else find (λ (q : Row). nat_eq q.signal signal) rest)) ≡ b || list_any (λ (q : Row). nat_eq q.signal signal) rest
+    by : (b : Bool) → is_some (place_in rest signal) ≡ list_any (λ (q : Row). nat_eq q.signal signal) rest
+        → is_some (option_map (λ (q : Row). q.place)
+        (if b then Some r else find (λ (q : Row). nat_eq q.signal signal) rest)) ≡ b
+        || list_any (λ (q : Row). nat_eq q.signal signal) rest
     by true h = refl
     by false h = h
 
@@ -63,7 +79,8 @@ enter_is x b signal n found is at = at ∙ ap (λ o. unwrap_or o 0) is ∙ by (s
     by None = refl
     by (Some k) = row_place_is k.enters signal
 
-pub receives_is : (x : Parts) (b signal : ℕ) (found : Option ℕ) (yes_is : Bool) → found ≡ enter_of x.blocks b signal → yes_is ≡ is_some found → yes_is ≡ option_map_or (is_receiver signal) (slice_get x.blocks b) false
+pub receives_is : (x : Parts) (b signal : ℕ) (found : Option ℕ) (yes_is : Bool) → found ≡ enter_of x.blocks b signal
+    → yes_is ≡ is_some found → yes_is ≡ option_map_or (is_receiver signal) (slice_get x.blocks b) false
 receives_is x b signal found yes_is is at = at ∙ ap is_some is ∙ by (slice_get x.blocks b)
   where
     by : (o : Option Block) → is_some (place_in (rows_of o) signal) ≡ option_map_or (is_receiver signal) o false
@@ -89,7 +106,8 @@ bracket_of f e h is =
 
 pub reference_below : (f : Factor) (b : ℕ) → IsFactorOfText f → f ≡ factor.Reference b → b < MOST_BLOCKS
 reference_below f b h is =
-    let below : b < length h.scope.blocks = subst (λ l. FactorFits h.scope l) (ap out-Factor is ∙ factor.outs-Reference b) (factor_fits-out h.scope f h.fits).0 in
+    let below : b < length h.scope.blocks = subst (λ l. FactorFits h.scope l)
+    (ap out-Factor is ∙ factor.outs-Reference b) (factor_fits-out h.scope f h.fits).0 in
     omega (arith, below, h.few)
 
 -- the relations of a condition

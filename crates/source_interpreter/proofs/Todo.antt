@@ -1,5 +1,6 @@
 -- What taking the first item, part by part, does to what remains.
-use Rattle.std.proofs.Common.{◌≡◌, true, false, List, [], ◌∷◌, ◌++◌, Option, Some, None, refl, subst, sym, ap, ◌∙◌, append_assoc, arith}
+use Rattle.std.proofs.Common.{◌≡◌, true, false, List, [], ◌∷◌, ◌++◌, Option, Some, None, refl}
+use Rattle.std.proofs.Common.{subst, sym, ap, ◌∙◌, append_assoc, arith}
 use Rattle.std.specs.Prelude.{IfSome, nat_lt, if◌then◌else◌}
 use Rattle.std.proofs.lemmas.List.{append-nil}
 use Rattle.std.proofs.lemmas.Bool.{not-false, not-true}
@@ -72,8 +73,10 @@ pub nothing : (all rest o : List Item) (found : Option Next) → found ≡ None 
 unfolding next_counted
 nothing all rest o found none is inv = sym inv ∙ ap next_counted (is ∙ ap (λ f. before f rest) none)
 
-pub reached : (all rest o : List Item) (found : Option Next) (n : Next) → found ≡ Some n → all ≡ before found rest → is_counted n ≡ true → next_counted all ≡ o → o ≡ item_of n ∷ rest
+pub reached : (all rest o : List Item) (found : Option Next) (n : Next) → found ≡ Some n → all ≡ before found rest
+    → is_counted n ≡ true → next_counted all ≡ o → o ≡ item_of n ∷ rest
 reached all rest o found n some is e inv = sym inv ∙ ap next_counted (is ∙ ap (λ f. before f rest) some) ∙ stays n rest e
 
-pub passed : (all rest o : List Item) (found : Option Next) (n : Next) → found ≡ Some n → all ≡ before found rest → is_counted n ≡ false → next_counted all ≡ o → next_counted rest ≡ o
+pub passed : (all rest o : List Item) (found : Option Next) (n : Next) → found ≡ Some n → all ≡ before found rest
+    → is_counted n ≡ false → next_counted all ≡ o → next_counted rest ≡ o
 passed all rest o found n some is e inv = sym (ap next_counted (is ∙ ap (λ f. before f rest) some) ∙ goes n rest e) ∙ inv

@@ -37,7 +37,8 @@ AllOwn cases statements = AllByRecursion (IsOwn cases) statements
 -- so does each statement of the lists in a layer
 abbrev pub ListsOwn : Cases → Layer → Type 0
 ListsOwn cases (layer.If cond first other) = AllOwn cases first × AllOwn cases other
-ListsOwn cases (layer.Case value whens otherwise) = AllByRecursion (λ w. AllOwn cases (out-When w).body) whens × AllOwn cases otherwise
+ListsOwn cases (layer.Case value whens otherwise) =
+    AllByRecursion (λ w. AllOwn cases (out-When w).body) whens × AllOwn cases otherwise
 ListsOwn cases (layer.On temp from upto body) = AllOwn cases body
 ListsOwn cases _ = Unit {0}
 
@@ -61,7 +62,8 @@ unfoldable pub AreTablesOf : Cases → List Block → Type 0
 AreTablesOf cases blocks = AllByRecursion (BlockKnown cases) blocks
 
 -- the same of a CASE at a point, told part by part
-pub record CaseKnown (cases : Cases) (point : ℕ) (whens : List When) (otherwise : List Stmt) : Type 0 where
+pub record CaseKnown (cases : Cases) (point : ℕ) (whens : List When) (otherwise : List Stmt) : Type
+    0 where
   pub own : FindsOwn cases point whens
   pub choices : AllByRecursion (WhenKnown cases) whens
   pub other : AreKnown cases otherwise

@@ -1,5 +1,6 @@
 -- What a check tells: nothing, or a fault.
-use Rattle.std.specs.Prelude.{ℕ, ◌^◌, nat_lt, Bool, Option, Some, None, Result, Ok, Err, if◌then◌else◌}
+use Rattle.std.specs.Prelude.{ℕ, ◌^◌, nat_lt, Bool, Option, Some, None, Result, Ok, Err}
+use Rattle.std.specs.Prelude.{if◌then◌else◌}
 use Rattle.job_types.specs.Truth.{one_if}
 use Rattle.job_types.specs.declared.fault.Fault.{Fault}
 use Rattle.job_types.specs.declared.fault.Fault.TheVariants as fault

@@ -70,7 +70,8 @@ AreWhensOfText cases whens = AllByRecursion (λ w. AreOfText cases (out-When w).
 
 -- a part of what remains is made of statements of an exchange, beside the tables of that
 abbrev pub IsKept : Part → Type 0
-IsKept (part.Rest first others cases) = IsOfText cases.now first.now × AreOfText cases.now others.now
+IsKept (part.Rest first others cases) =
+    IsOfText cases.now first.now × AreOfText cases.now others.now
 IsKept (part.Start statement) = Unit {0}
 IsKept (part.Turns point temp this end body cases) = AreOfText cases.now body.now
 

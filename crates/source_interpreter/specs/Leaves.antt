@@ -1,5 +1,6 @@
 -- How what a job does leaves it: it goes on, or it is over.
-use Rattle.std.specs.Prelude.{◌≡◌, ℕ, ◌+◌, Bool, List, [], ◌∷◌, ◌++◌, map, Some, Result, Ok, Err, slice_get}
+use Rattle.std.specs.Prelude.{◌≡◌, ℕ, ◌+◌, Bool, List, [], ◌∷◌, ◌++◌, map, Some, Result, Ok, Err}
+use Rattle.std.specs.Prelude.{slice_get}
 use Rattle.job_types.specs.declared.outcome.Outcome.{Outcome}
 use Rattle.job_types.specs.declared.outcome.Outcome.TheVariants.{Ended, Faulted}
 use Rattle.job_types.specs.declared.touch.Touch.{Touch}
@@ -34,32 +35,43 @@ Leaves x before d (Err (stop.Fault f)) r store = IsOver d (Faulted f r.own.point
 Leaves x before d (Err stop.Ended) r store = IsOver d Ended r store
 Leaves x before d (Err stop.Memory) r store = store ≡ before
 
--- from a job and its stored words this was done, whatever was touched before; what it leaves to be done is told by `go`
-pub record Follows (go : Config → Config) (r : Running) (store : List ℕ) (result : Result (Unit {0}) Stop) (r' : Running) (store' : List ℕ) : Type 0 where
-  pub leaves : (trace : List Touch) (todo : List Item) → Leaves r.exchange store (go (record (config_of r store trace) { todo = todo })) result r' store'
+-- from a job and its stored words this was done, whatever was touched before; what it leaves to be
+-- done is told by `go`
+pub record Follows (go : Config → Config) (r : Running) (store : List ℕ)
+    (result : Result (Unit {0}) Stop) (r' : Running) (store' : List ℕ) : Type 0 where
+  pub leaves : (trace : List Touch) (todo : List Item)
+      → Leaves r.exchange store (go (record (config_of r store trace) { todo = todo })) result r'
+      store'
 
 -- the same over any stored words, which stay as they are
 abbrev pub Leads : (Config → Config) → Running → Result (Unit {0}) Stop → Running → Type 0
 Leads go r result r' = (store : List ℕ) → Follows go r store result r' store
 
 -- a statement is done: it was counted and taken from what remains
-abbrev pub Does : StmtKind-F StmtKind Stmt When → Running → List ℕ → Result (Unit {0}) Stop → Running → List ℕ → Type 0
-Does l r store result r' store' = Follows (does r.exchange r.own.point l r.todo) r store result r' store'
+abbrev pub Does : StmtKind-F StmtKind Stmt When → Running → List ℕ → Result (Unit {0}) Stop
+    → Running → List ℕ → Type 0
+Does l r store result r' store' =
+    Follows (does r.exchange r.own.point l r.todo) r store result r' store'
 
 -- one turn of a loop, where this remains after it
 abbrev pub turn : (point temp this last : ℕ) → List Stmt → List Item → Config → Config
-turn point temp this last body rest d = goes (map Do body ++ (Turns point temp (this + 1) last body ∷ rest)) (sets_temp temp this d)
+turn point temp this last body rest d =
+    goes (map Do body ++ (Turns point temp (this + 1) last body ∷ rest)) (sets_temp temp this d)
 
 -- a signal goes to a block with its values, by its kind
 abbrev pub to_kind : Running → ℕ → ℕ → Bool → List ℕ → Config → Config
-to_kind r signal b fresh vs d = sends r.exchange (slice_get r.exchange.signals signal) signal b fresh r.todo vs d
+to_kind r signal b fresh vs d =
+    sends r.exchange (slice_get r.exchange.signals signal) signal b fresh r.todo vs d
 
 -- one step is made
-pub record Steps (r : Running) (store : List ℕ) (result : Result (Unit {0}) Stop) (r' : Running) (store' : List ℕ) : Type 0 where
-  pub leaves : (trace : List Touch) → Leaves r.exchange store (step r.exchange (config_of r store trace)) result r' store'
+pub record Steps (r : Running) (store : List ℕ) (result : Result (Unit {0}) Stop) (r' : Running)
+    (store' : List ℕ) : Type 0 where
+  pub leaves : (trace : List Touch) → Leaves r.exchange store
+      (step r.exchange (config_of r store trace)) result r' store'
 
 -- the job runs until it is over
-pub record RunsTo (r : Running) (store : List ℕ) (o : Outcome) (r' : Running) (store' : List ℕ) : Type 0 where
+pub record RunsTo (r : Running) (store : List ℕ) (o : Outcome) (r' : Running)
+    (store' : List ℕ) : Type 0 where
   pub steps : ℕ
   pub over : IsOver (after_steps steps r.exchange (config_of r store [])) o r' store'
 

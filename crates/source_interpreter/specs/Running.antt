@@ -1,5 +1,5 @@
--- A job as it is held while it runs: its configuration without the stored words and their trace, beside its exchange; and
--- what may become of it.
+-- A job as it is held while it runs: its configuration without the stored words and their trace,
+-- beside its exchange; and what may become of it.
 use Rattle.std.specs.Prelude.{ℕ, List, [], ◌∷◌, ◌++◌, map, slice_set, None, slice_get}
 use Rattle.job_types.specs.declared.job.JobStart.{JobStart}
 use Rattle.job_types.specs.declared.outbox.SendTo.{SendTo}
@@ -9,7 +9,8 @@ use Rattle.exchange_model.specs.declared.stmt.Stmt.{Stmt}
 use Rattle.job_types.specs.Own.{Own, own_of, counted, eight}
 use Rattle.job_types.specs.Chain.{without}
 use Rattle.source_meaning.specs.Value.{Sight}
-use Rattle.source_meaning.specs.Config.{Item, Do, Turns, Caller, Config, sight, blank, from_place, from_signal, label_of}
+use Rattle.source_meaning.specs.Config.{Item, Do, Turns, Caller, Config, sight, blank, from_place}
+use Rattle.source_meaning.specs.Config.{from_signal, label_of}
 use Rattle.source_meaning.specs.Changes.{takes}
 use Rattle.source_meaning.specs.Job.{place_of, todo_of as first_todo}
 
@@ -67,11 +68,15 @@ abbrev pub before_rest : List Stmt → Running → Running
 before_rest statements r = record r { todo = map Do statements ++ r.todo }
 
 abbrev pub with_turns : ℕ → ℕ → ℕ → List Stmt → Running → Running
-with_turns temp this last body r = record r { todo = Turns r.own.point temp this last body ∷ r.todo }
+with_turns temp this last body r =
+    record r { todo = Turns r.own.point temp this last body ∷ r.todo }
 
 -- it goes on at a label
 abbrev pub at_label : ℕ → Running → Running
-at_label label r = record r { todo = from_place r.exchange r.block (label_of r.exchange r.block label) }
+at_label label r = record r {
+  todo = from_place r.exchange r.block
+      (label_of r.exchange r.block label);
+}
 
 -- an activation has begun in a block
 abbrev pub activated : ℕ → ℕ → List ℕ → Running → Running
@@ -86,7 +91,13 @@ activated b signal values r = record r {
 abbrev pub waiting : ℕ → Running → Running
 waiting answer r = record r {
   todo = [];
-  callers = record { block = r.block; todo = r.todo; temps = r.temps; given = r.own.given; awaits = answer } ∷ r.callers;
+  callers = record {
+    block = r.block;
+    todo = r.todo;
+    temps = r.temps;
+    given = r.own.given;
+    awaits = answer;
+  } ∷ r.callers;
 }
 
 abbrev pub resumed : Caller → List ℕ → Running → Running
@@ -99,11 +110,17 @@ resumed k values r = record r {
 
 -- a signal stands in the outbox
 abbrev pub posted : SendTo → List ℕ → Running → Running
-posted to values r = record r { own = record r.own { sends = r.own.sends ++ record { to = to; values = values } ∷ [] } }
+posted to values r = record r {
+  own = record r.own
+      { sends = r.own.sends ++ record { to = to; values = values } ∷ [] };
+}
 
 -- a record joins the chain, or leaves it
 abbrev pub holding : ℕ → ℕ → Running → Running
-holding file number r = record r { own = record r.own { chain = r.own.chain ++ record { file = file; number = number } ∷ [] } }
+holding file number r = record r {
+  own = record r.own
+      { chain = r.own.chain ++ record { file = file; number = number } ∷ [] };
+}
 
 abbrev pub left : ℕ → ℕ → Running → Running
 left file number r = record r { own = record r.own { chain = without r.own.chain file number } }

@@ -6,7 +6,8 @@ ghost use Rattle.std.specs.Prelude.{◌≡◌, ◌∷◌, [], ℕ, List, None, I
 ghost use Rattle.std.specs.Option.{option_copied};
 ghost use Rattle.case_lookup.specs.Tables.{IsTable};
 ghost use Rattle.exchange_model.specs.declared.stmt.StmtKind.{out-StmtKind};
-ghost use Rattle.source_interpreter.specs.Cases.{AreTablesOf, BlockKnown, FindsOwn, IsKnown, LayerKnown, WhenKnown, numbers_of, table_at};
+ghost use Rattle.source_interpreter.specs.Cases.{AreTablesOf, BlockKnown, FindsOwn, IsKnown};
+ghost use Rattle.source_interpreter.specs.Cases.{LayerKnown, WhenKnown, numbers_of, table_at};
 ghost use Rattle.source_interpreter.specs.Found.{AreOwn, Gathers};
 
 use case_lookup::table_of;

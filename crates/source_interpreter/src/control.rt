@@ -7,7 +7,8 @@ ghost use Rattle.source_meaning.specs.Changes.{ends, chosen as statements_chosen
 ghost use Rattle.case_lookup.specs.Tables.{IsTable};
 ghost use Rattle.source_interpreter.specs.Cases.{FindsOwn, numbers_of};
 ghost use Rattle.source_interpreter.specs.Leaves.{Does, Leads, turn};
-ghost use Rattle.source_interpreter.specs.Kept.{AreOfText, AreWhensOfText, IsCondOfText, IsExprOfText};
+ghost use Rattle.source_interpreter.specs.Kept.{AreOfText, AreWhensOfText, IsCondOfText};
+ghost use Rattle.source_interpreter.specs.Kept.{IsExprOfText};
 
 use crate::cases::Cases;
 use crate::run::Run;

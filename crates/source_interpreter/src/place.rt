@@ -1,5 +1,6 @@
 // The files of an exchange, and the cells of their records.
-ghost use Rattle.std.specs.Prelude.{◌≡◌, ◌+◌, ◌*◌, ◌<◌, ◌≤◌, length, nat_eq, IfSome, slice_get, slice_index};
+ghost use Rattle.std.specs.Prelude.{◌≡◌, ◌+◌, ◌*◌, ◌<◌, ◌≤◌, length, nat_eq, IfSome, slice_get};
+ghost use Rattle.std.specs.Prelude.{slice_index};
 ghost use Rattle.exchange_model.specs.Cells.{record_cells, field_cell, mark_cell};
 ghost use Rattle.source_meaning.specs.Value.{pointer_fault, stands as stand};
 ghost use Rattle.source_interpreter.specs.Checks.{unless};

@@ -1,18 +1,26 @@
 // A job as it runs.
-ghost use Rattle.std.specs.Prelude.{◌≡◌, ◌+◌, ◌≤◌, ◌++◌, [], length, nat_lt, nat_eq, not, true, ◌&&◌, position, IfSome, IfNone, MatchOption, OnOk, OnErr, IfOk, None, Some, slice_get, take, slice_index, if◌then◌else◌, Ok, Err};
+ghost use Rattle.std.specs.Prelude.{◌≡◌, ◌+◌, ◌≤◌, ◌++◌, [], length, nat_lt, nat_eq, not, true};
+ghost use Rattle.std.specs.Prelude.{◌&&◌, position, IfSome, IfNone, MatchOption, OnOk, OnErr, IfOk};
+ghost use Rattle.std.specs.Prelude.{None, Some, slice_get, take, slice_index, if◌then◌else◌, Ok};
+ghost use Rattle.std.specs.Prelude.{Err};
 ghost use Rattle.std.specs.Option.{option_to_list};
 ghost use Rattle.plex_limits.specs.declared.limits.TheConstants.{MOST_HELD, MOST_SENT, MOST_VALUES};
 ghost use Rattle.job_types.specs.declared.chain.Held.{Held};
 ghost use Rattle.job_types.specs.Own.{budget, eight as eight_of};
-ghost use Rattle.source_meaning.specs.Value.{answer_of, expr_value, cond_value, values_of, pointer_fault};
+ghost use Rattle.source_meaning.specs.Value.{answer_of, expr_value, cond_value, values_of};
+ghost use Rattle.source_meaning.specs.Value.{pointer_fault};
 ghost use Rattle.source_interpreter.specs.Checks.{bit_of, unless};
 ghost use Rattle.source_meaning.specs.Config.{base_of, next_counted};
 ghost use Rattle.source_meaning.specs.Changes.{takes, variable_width as width_of_variable};
 ghost use Rattle.job_types.specs.Chain.{without as chain_without};
 ghost use Rattle.source_interpreter.specs.Reached.{reached};
-ghost use Rattle.source_interpreter.specs.Running.{Running, sight_of, at_start, with_count, with_point, with_temp, with_temps, with_turns, before_rest, at_label, activated, waiting, resumed, posted, holding, left};
+ghost use Rattle.source_interpreter.specs.Running.{Running, sight_of, at_start, with_count};
+ghost use Rattle.source_interpreter.specs.Running.{with_point, with_temp, with_temps, with_turns};
+ghost use Rattle.source_interpreter.specs.Running.{before_rest, at_label, activated, waiting};
+ghost use Rattle.source_interpreter.specs.Running.{resumed, posted, holding, left};
 ghost use Rattle.source_interpreter.specs.Cases.{AreTablesOf};
-ghost use Rattle.source_interpreter.specs.Kept.{AreExprsOfText, AreOfText, IsCondOfText, IsExprOfText, IsNextKept};
+ghost use Rattle.source_interpreter.specs.Kept.{AreExprsOfText, AreOfText, IsCondOfText};
+ghost use Rattle.source_interpreter.specs.Kept.{IsExprOfText, IsNextKept};
 ghost use Rattle.source_interpreter.specs.Taken.{before, is_counted};
 
 use crate::cases::Cases;

@@ -2,8 +2,11 @@
 // the definitions.
 ghost use Rattle.std.specs.Prelude.{◌≡◌, false, drop, slice_get};
 ghost use Rattle.std.specs.Option.{option_map_or};
-ghost use Rattle.source_meaning.specs.Config.{base_of, body_of, label_of, is_receiver, receiver_of, enter_place as place_of_enter, entry_number as number_of_entry};
-ghost use Rattle.source_meaning.specs.Changes.{variable_width as width_of_variable, value_count as count_of_values};
+ghost use Rattle.source_meaning.specs.Config.{base_of, body_of, label_of, is_receiver, receiver_of};
+ghost use Rattle.source_meaning.specs.Config.{enter_place as place_of_enter};
+ghost use Rattle.source_meaning.specs.Config.{entry_number as number_of_entry};
+ghost use Rattle.source_meaning.specs.Changes.{variable_width as width_of_variable};
+ghost use Rattle.source_meaning.specs.Changes.{value_count as count_of_values};
 ghost use Rattle.source_interpreter.specs.declared.cases.Cases.{Cases};
 ghost use Rattle.source_interpreter.specs.Cases.{AreTablesOf};
 ghost use Rattle.source_interpreter.specs.Kept.{AreOfText};

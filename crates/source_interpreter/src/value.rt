@@ -1,10 +1,12 @@
 // The value of an expression, and whether a condition holds.
 ghost use Rattle.std.specs.Prelude.{◌≡◌, ◌+◌, ◌<◌};
-ghost use Rattle.source_meaning.specs.Value.{expr_value, term_value, factor_value, summed, joined, answer_of, cond_value, all_value, relation_value};
+ghost use Rattle.source_meaning.specs.Value.{expr_value, term_value, factor_value, summed, joined};
+ghost use Rattle.source_meaning.specs.Value.{answer_of, cond_value, all_value, relation_value};
 ghost use Rattle.source_interpreter.specs.Checks.{bit_of};
 ghost use Rattle.plex_limits.specs.declared.limits.TheConstants.{MOST_BLOCKS};
 ghost use Rattle.exchange_model.specs.PartFits.{TermFits};
-ghost use Rattle.source_interpreter.specs.Kept.{IsOf, IsExprOfText, IsFactorOfText, IsRelationOfText, AreRelationsOfText, IsCondOfText};
+ghost use Rattle.source_interpreter.specs.Kept.{IsOf, IsExprOfText, IsFactorOfText};
+ghost use Rattle.source_interpreter.specs.Kept.{IsRelationOfText, AreRelationsOfText, IsCondOfText};
 
 use crate::view::View;
 use exchange_model::{Cond, Expr, Factor, FactorOp, Relation, Term};

@@ -1,5 +1,6 @@
 // What remains to be done, as places in the exchange's own lists: no statement is copied.
-ghost use Rattle.std.specs.Prelude.{◌≡◌, ◌∷◌, ◌++◌, [], List, map, true, OnOk, IfOk, IfSome, IfNone};
+ghost use Rattle.std.specs.Prelude.{◌≡◌, ◌∷◌, ◌++◌, [], List, map, true, OnOk, IfOk, IfSome};
+ghost use Rattle.std.specs.Prelude.{IfNone};
 ghost use Rattle.exchange_model.specs.declared.stmt.StmtKind.{out-StmtKind};
 ghost use Rattle.source_meaning.specs.Config.{Item, Do, Start, Turns, starting, next_counted};
 ghost use Rattle.exchange_model.specs.Kept.{is_enter as enters};

@@ -14,7 +14,8 @@ use Rattle.source_meaning.specs.Deeds.{Deed, IsAsking, by_combined}
 use Rattle.source_meaning.specs.Effects.{Effect, Looks, Leave, Begins, Asks, Returns, Ends, Faults}
 use Rattle.source_meaning.specs.Job.{begins, after_steps}
 use Rattle.source_meaning.specs.Named.{Layer}
-use Rattle.source_meaning.specs.Rests.{AreRests, DeedStands, StandsAs, IsRetrieveOf, WaitsAtRetrieve, AllWaitAtRetrieve}
+use Rattle.source_meaning.specs.Rests.{AreRests, DeedStands, StandsAs, IsRetrieveOf}
+use Rattle.source_meaning.specs.Rests.{WaitsAtRetrieve, AllWaitAtRetrieve}
 use Rattle.source_meaning.proofs.Fitting.{row_paired}
 use Rattle.source_meaning.proofs.Keeping.{KeptWith, kept_both, steps_keep}
 use Rattle.source_meaning.proofs.Rests.{DeedRest, rests_kept, start_rests}
@@ -24,11 +25,13 @@ module _ (x : Exchange) (kept : IsExchange x) where
   awaits_next : (b p : ℕ) (l : Layer) (rest : List Item) (answer : ℕ) → StandsAs x b p l rest → awaited x.signals l ≡ Some answer → IsRetrieveOf answer rest
   awaits_next b p l rest answer h is = by h.stands.list (row_paired x kept b h.stmt h.stands.list h.stands.end h.stands.row) h.stands.is
     where
-      by : (list : List Stmt) → ArePaired x.signals (awaited x.signals (out-StmtKind h.stmt.kind)) list → rest ≡ map Do list ++ h.stands.more → IsRetrieveOf answer rest
+      by : (list : List Stmt) → ArePaired x.signals (awaited x.signals (out-StmtKind h.stmt.kind)) list
+          → rest ≡ map Do list ++ h.stands.more → IsRetrieveOf answer rest
       by [] pairs same = absurd (let none : Some answer ≡ None = sym is ∙ ap (awaited x.signals) (sym h.is) ∙ pairs in cc)
       by (r ∷ list) pairs same = subst (IsRetrieveOf answer) (sym same) (pairs.0 ∙ ap (awaited x.signals) h.is ∙ is)
 
-  asking_next : (c : Config) (deed : Deed) (rest : List Item) (b signal answer : ℕ) (vs : List ℕ) → DeedStands x c.block deed rest → IsAsking x c deed b signal answer vs → IsRetrieveOf answer rest
+  asking_next : (c : Config) (deed : Deed) (rest : List Item) (b signal answer : ℕ) (vs : List ℕ)
+      → DeedStands x c.block deed rest → IsAsking x c deed b signal answer vs → IsRetrieveOf answer rest
   asking_next c deed rest b signal answer vs at (by_combined p s to values fresh name count a n ws kind sending) =
       awaits_next c.block p (stmt.Send s to values fresh) rest a at (ap answer_of kind)
 
@@ -36,7 +39,8 @@ module _ (x : Exchange) (kept : IsExchange x) where
   effect_waits deed rest c d all (Looks e loads each) = all
   effect_waits deed rest c d all _ = all
 
-  leave_waits : (deed : Deed) (rest : List Item) (c d : Config) → DeedStands x c.block deed rest → AllWaitAtRetrieve c → Leave x deed rest c d → AllWaitAtRetrieve d
+  leave_waits : (deed : Deed) (rest : List Item) (c d : Config) → DeedStands x c.block deed rest → AllWaitAtRetrieve c
+      → Leave x deed rest c d → AllWaitAtRetrieve d
   leave_waits deed rest c d at all (Begins e b signal vs is) = all
   leave_waits deed rest c d at all (Asks e b signal answer vs is room) = (asking_next c deed rest b signal answer vs at is, all)
   leave_waits deed rest c d at all (Returns e p answer values vs k ks is given some same) = (subst (AllByRecursion WaitsAtRetrieve) some all).1

@@ -1,5 +1,6 @@
 -- Each step counts one item, so that the budget ends every job.
-use Rattle.std.proofs.Common.{◌≡◌, ℕ, zero, suc, ◌+◌, ◌<◌, ◌≤◌, List, [], ◌∷◌, Option, Some, None, refl, ap, ◌∙◌, arith}
+use Rattle.std.proofs.Common.{◌≡◌, ℕ, zero, suc, ◌+◌, ◌<◌, ◌≤◌, List, [], ◌∷◌, Option, Some, None}
+use Rattle.std.proofs.Common.{refl, ap, ◌∙◌, arith}
 use Rattle.std.proofs.lemmas.Bool.{ltb-true}
 use Rattle.job_types.specs.declared.job.JobStart.{JobStart}
 use Rattle.job_types.specs.declared.outcome.Outcome.{Outcome}
@@ -8,7 +9,8 @@ use Rattle.exchange_model.specs.declared.exchange.Exchange.{Exchange}
 use Rattle.source_meaning.specs.Config.{Item, Caller, Config}
 use Rattle.source_meaning.specs.Changes.{ends}
 use Rattle.source_meaning.specs.Deeds.{Deed}
-use Rattle.source_meaning.specs.Effects.{Effect, Looks, Leave, Faults, Effects, Done, Then, Last, Step, NothingLeft, CountFull, Counts}
+use Rattle.source_meaning.specs.Effects.{Effect, Looks, Leave, Faults, Effects, Done, Then, Last}
+use Rattle.source_meaning.specs.Effects.{Step, NothingLeft, CountFull, Counts}
 use Rattle.source_meaning.specs.Step.{step}
 use Rattle.source_meaning.specs.Job.{unless_over, begins, job, after_steps}
 use Rattle.source_meaning.proofs.Stepping.{every_step}
@@ -47,13 +49,20 @@ unfolding after_steps
 over_stays zero x c o e = refl
 over_stays (suc n) x c o e = ap (λ v. unless_over v c (after_steps n x (step x c))) e
 
-steps_end : (n : ℕ) (x : Exchange) (c : Config) → c.over ≡ None → c.own.count ≤ budget → budget < c.own.count + n → (o : Outcome) × ((after_steps n x c).over ≡ Some o)
+steps_end : (n : ℕ) (x : Exchange) (c : Config) → c.over ≡ None → c.own.count ≤ budget → budget < c.own.count + n
+    → (o : Outcome) × ((after_steps n x c).over ≡ Some o)
 unfolding after_steps
 steps_end zero x c going le lt = absurd (omega arith)
 steps_end (suc n) x c going le lt = after (λ e le lt. steps_end n x (step x c) e le lt) (step x c).over refl
   where
-    after : ((step x c).over ≡ None → (step x c).own.count ≤ budget → budget < (step x c).own.count + n → (o : Outcome) × ((after_steps n x (step x c)).over ≡ Some o)) → (v : Option Outcome) → (step x c).over ≡ v → (o : Outcome) × ((unless_over c.over c (after_steps n x (step x c))).over ≡ Some o)
-    after more (Some o) e = (o, ap (λ v. (unless_over v c (after_steps n x (step x c))).over) going ∙ ap (λ (d : Config). d.over) (over_stays n x (step x c) o e) ∙ e)
+    after : ((step x c).over ≡ None → (step x c).own.count ≤ budget → budget < (step x c).own.count + n
+        → (o : Outcome) × ((after_steps n x (step x c)).over ≡ Some o)) → (v : Option Outcome) → (step x c).over ≡ v
+        → (o : Outcome) × ((unless_over c.over c (after_steps n x (step x c))).over ≡ Some o)
+    after more (Some o) e = (
+      o,
+      ap (λ v. (unless_over v c (after_steps n x (step x c))).over) going
+          ∙ ap (λ (d : Config). d.over) (over_stays n x (step x c) o e) ∙ e,
+    )
     after more None e =
         let k = step_counts x c (step x c) e (every_step x c) in
         let r = more e (omega (arith, k.one, k.below)) (omega (arith, k.one, k.below)) in

@@ -1,5 +1,6 @@
 -- The sends of a job that retires keep all of a state but its chains and marks.
-use Rattle.std.proofs.Common.{◌≡◌, ⊎_elim, ℕ, suc, ◌+◌, ◌<◌, true, false, List, [], ◌∷◌, ◌++◌, length, refl, ◌∙◌, subst, arith}
+use Rattle.std.proofs.Common.{◌≡◌, ⊎_elim, ℕ, suc, ◌+◌, ◌<◌, true, false, List, [], ◌∷◌, ◌++◌}
+use Rattle.std.proofs.Common.{length, refl, ◌∙◌, subst, arith}
 use Rattle.std.specs.List.{AllByRecursion}
 use Rattle.std.proofs.lemmas.Bool.{cases_Bool}
 use Rattle.job_types.specs.declared.job.Job.{Job}
@@ -14,7 +15,8 @@ use Rattle.source_meaning.specs.Retirement.{delivered_to, delivered, all_deliver
 use Rattle.source_meaning.specs.State.{State, Arrived, Out}
 use Rattle.source_meaning.specs.Valid.{IsJob, IsLive, MayBe, EventFits}
 use Rattle.plex_num.proofs.Lists.{all_append, all_weaker}
-use Rattle.source_meaning.proofs.States.{IsLater, may_later, may_of, Orderly, lists_of, lists_later, lists_join, waiting_of}
+use Rattle.source_meaning.proofs.States.{IsLater, may_later, may_of, Orderly, lists_of, lists_later}
+use Rattle.source_meaning.proofs.States.{lists_join, waiting_of}
 
 -- a later state with the same words and chains
 pub record IsDelivered (s t : State) : Type 0 where
@@ -35,10 +37,13 @@ all_delivered_chains forlopp (m ∷ rest) s = all_delivered_chains forlopp rest 
 
 -- the next number is no dead one
 pub next_alive : (x : Exchange) (s : State) (room : ℕ) → Orderly x s room → is_dead s.dead s.next ≡ false
-next_alive x s room o = ⊎_elim (λ dead. let past = o.dead s.next dead in absurd (let below = past.1 in omega arith)) (λ alive. alive) (cases_Bool (is_dead s.dead s.next))
+next_alive x s room o = ⊎_elim (λ dead. let past = o.dead s.next dead in absurd (let below = past.1 in omega arith))
+    (λ alive. alive) (cases_Bool (is_dead s.dead s.next))
 
 module _ (x : Exchange) (forlopp : ℕ) where
-  send_orderly : (to : SendTo) (values : List ℕ) (s : State) (room : ℕ) → Orderly x s (room + 1) → SentFits x to values → MayBe s forlopp → Orderly x (delivered_to to forlopp values s) room × IsDelivered s (delivered_to to forlopp values s)
+  send_orderly : (to : SendTo) (values : List ℕ) (s : State) (room : ℕ) → Orderly x s (room + 1) → SentFits x to values
+      → MayBe s forlopp → Orderly x (delivered_to to forlopp values s) room
+      × IsDelivered s (delivered_to to forlopp values s)
   send_orderly (Outside signal) values s room o fits may =
       let t : State = record s { events = s.events ++ Out s.ended signal values forlopp ∷ [] } in
       let later : IsLater s t = record { next = omega arith; dead = λ n alive. alive } in (
@@ -87,7 +92,9 @@ module _ (x : Exchange) (forlopp : ℕ) where
         record { later = later; store = refl; chains = refl },
       )
 
-  pub sends_orderly : (sends : List Sent) (s : State) → Orderly x s (length sends) → AllByRecursion (λ (m : Sent). SentFits x m.to m.values) sends → MayBe s forlopp → Orderly x (all_delivered forlopp sends s) 0 × IsDelivered s (all_delivered forlopp sends s)
+  pub sends_orderly : (sends : List Sent) (s : State) → Orderly x s (length sends)
+      → AllByRecursion (λ (m : Sent). SentFits x m.to m.values) sends → MayBe s forlopp
+      → Orderly x (all_delivered forlopp sends s) 0 × IsDelivered s (all_delivered forlopp sends s)
   sends_orderly [] s o fits may = (o, record { later = record { next = omega arith; dead = λ n alive. alive }; store = refl; chains = refl })
   sends_orderly (m ∷ rest) s o fits may =
       let t = delivered forlopp m s in
@@ -96,7 +103,10 @@ module _ (x : Exchange) (forlopp : ℕ) where
       let after = sends_orderly rest t here.0 fits.1 (may_later here.1.later forlopp may) in (
         after.0,
         record {
-          later = record { next = (let a = here.1.later.next in let b = after.1.later.next in omega arith); dead = λ n alive. after.1.later.dead n (here.1.later.dead n alive) };
+          later = record {
+            next = (let a = here.1.later.next in let b = after.1.later.next in omega arith);
+            dead = λ n alive. after.1.later.dead n (here.1.later.dead n alive);
+          };
           store = after.1.store ∙ here.1.store;
           chains = after.1.chains ∙ here.1.chains;
         },

@@ -1,5 +1,7 @@
 -- What remains ends with the end of the text, so that something is counted at each step.
-use Rattle.std.proofs.Common.{◌≡◌, ◌⊎◌, inl, inr, ⊎_elim, ℕ, zero, suc, ◌+◌, ◌<◌, Bool, true, false, List, [], ◌∷◌, ◌++◌, map, drop, length, Some, None, refl, sym, ap, ◌∙◌, subst, slice_get}
+use Rattle.std.proofs.Common.{◌≡◌, ◌⊎◌, inl, inr, ⊎_elim, ℕ, zero, suc, ◌+◌, ◌<◌, Bool, true, false}
+use Rattle.std.proofs.Common.{List, [], ◌∷◌, ◌++◌, map, drop, length, Some, None, refl, sym, ap}
+use Rattle.std.proofs.Common.{◌∙◌, subst, slice_get}
 use Rattle.std.specs.Prelude.{nat_lt, if◌then◌else◌}
 use Rattle.std.specs.List.{AllByRecursion}
 use Rattle.std.specs.Option.{option_map_or}
@@ -16,14 +18,20 @@ use Rattle.exchange_model.specs.Fits.{Scope, KindNames, IsLabel, retrieved}
 use Rattle.exchange_model.specs.Kept.{IsExchange, IsFinish, IsLabelAt, IsText, entered, scope_of}
 use Rattle.exchange_model.specs.Kept.IsText.{ends, goes}
 use Rattle.exchange_model.proofs.Numbers.{there_from}
-use Rattle.source_meaning.specs.Config.{Item, Do, Start, Turns, Caller, Config, body_of, label_of, from_place, from_signal, next_counted}
+use Rattle.source_meaning.specs.Config.{Item, Do, Start, Turns, Caller, Config, body_of, label_of}
+use Rattle.source_meaning.specs.Config.{from_place, from_signal, next_counted}
 use Rattle.exchange_model.specs.Kept.{is_enter}
 use Rattle.source_meaning.specs.Changes.{ends as ends_at}
-use Rattle.source_meaning.specs.Deeds.{Deed, Doing, deed_of, label_in, IsBranch, MayGoOn, GoesOn, to_next, with_value, to_label, to_branch, to_loop, to_turn, with_found, with_seized, with_answers, with_given, from_no_enter, IsAsking, by_combined}
-use Rattle.source_meaning.specs.Effects.{Effect, Looks, Goes, Leave, Begins, Asks, Returns, Ends, Faults}
+use Rattle.source_meaning.specs.Deeds.{Deed, Doing, deed_of, label_in, IsBranch, MayGoOn, GoesOn}
+use Rattle.source_meaning.specs.Deeds.{to_next, with_value, to_label, to_branch, to_loop, to_turn}
+use Rattle.source_meaning.specs.Deeds.{with_found, with_seized, with_answers, with_given}
+use Rattle.source_meaning.specs.Deeds.{from_no_enter, IsAsking, by_combined}
+use Rattle.source_meaning.specs.Effects.{Effect, Looks, Goes, Leave, Begins, Asks, Returns, Ends}
+use Rattle.source_meaning.specs.Effects.{Faults}
 use Rattle.source_meaning.specs.Job.{todo_of, begins, after_steps}
 use Rattle.source_meaning.specs.Named.{Layer}
-use Rattle.source_meaning.specs.Rests.{AreRests, DeedStands, IsRow, whole, JumpsTo, BeginsAt, EndsText, AllEndText}
+use Rattle.source_meaning.specs.Rests.{AreRests, DeedStands, IsRow, whole, JumpsTo, BeginsAt}
+use Rattle.source_meaning.specs.Rests.{EndsText, AllEndText}
 use Rattle.source_meaning.specs.Valid.{IsJob}
 use Rattle.source_meaning.proofs.Activating.{entry_begins, text_left}
 use Rattle.source_meaning.proofs.Fitting.{deed_fits_in}
@@ -66,14 +74,17 @@ unfolding next_counted
 counted_ends [] h = h
 counted_ends (Do s ∷ rest) h = by (is_enter (out-StmtKind s.kind)) refl rest h (counted_ends rest)
   where
-    by : (e : Bool) → is_enter (out-StmtKind s.kind) ≡ e → (rest : List Item) → EndsText (Do s ∷ rest) → (EndsText rest → EndsText (next_counted rest)) → EndsText (if e then next_counted rest else Do s ∷ rest)
+    by : (e : Bool) → is_enter (out-StmtKind s.kind) ≡ e → (rest : List Item) → EndsText (Do s ∷ rest)
+        → (EndsText rest → EndsText (next_counted rest)) → EndsText (if e then next_counted rest else Do s ∷ rest)
     by true is [] h more = absurd (no_enter_ends s h is)
     by true is (j ∷ rest) h more = more h
     by false is rest h more = h
 counted_ends (Start s ∷ rest) h = h
 counted_ends (Turns p temp this end body ∷ rest) h = by (nat_lt end this) rest h (counted_ends rest)
   where
-    by : (e : Bool) (rest : List Item) → EndsText (Turns p temp this end body ∷ rest) → (EndsText rest → EndsText (next_counted rest)) → EndsText (if e then next_counted rest else Turns p temp this end body ∷ rest)
+    by : (e : Bool) (rest : List Item) → EndsText (Turns p temp this end body ∷ rest)
+        → (EndsText rest → EndsText (next_counted rest))
+        → EndsText (if e then next_counted rest else Turns p temp this end body ∷ rest)
     by true [] h more = absurd h
     by true (j ∷ rest) h more = more h
     by false rest h more = h
@@ -122,7 +133,8 @@ module _ (x : Exchange) (kept : IsExchange x) where
       let some = there_from (slice_get k.body e.0.place) (λ (s : Stmt). retrieved (out-StmtKind s.kind) ≡ None) at in
       let left = first_of_rest k.body e.0.place some.value some.is in
       let place : label_of x b label ≡ e.0.place =
-      ap (λ o. option_map_or (λ (k : Block). option_map_or (λ (e : Label). e.place) (slice_get k.labels label) 0) o 0) there ∙ ap (λ o. option_map_or (λ (e : Label). e.place) o 0) e.1 in
+      ap (λ o. option_map_or (λ (k : Block). option_map_or (λ (e : Label). e.place) (slice_get k.labels label) 0) o 0)
+      there ∙ ap (λ o. option_map_or (λ (e : Label). e.place) o 0) e.1 in
       let body : body_of x b ≡ k.body = ap (λ o. option_map_or (λ (k : Block). k.body) o []) there in
       record {
         stmt = some.value;
@@ -137,14 +149,17 @@ module _ (x : Exchange) (kept : IsExchange x) where
   place_ends b label k there lt = let j = jump_goes b label k there lt in subst EndsText (sym j.is) (ends_text (j.stmt ∷ j.rest) j.text)
 
   -- where a job goes on
-  goes_ends : (rest : List Item) (c : Config) (deed : Deed) (todo : List Item) (temps : List ℕ) → DeedStands x c.block deed rest → EndsAfter deed rest → GoesOn x rest c deed todo temps → EndsText todo
+  goes_ends : (rest : List Item) (c : Config) (deed : Deed) (todo : List Item) (temps : List ℕ)
+      → DeedStands x c.block deed rest → EndsAfter deed rest → GoesOn x rest c deed todo temps → EndsText todo
   goes_ends rest c deed todo temps at after (to_next p {l = l} may) = ⊎_elim (λ last. absurd (go_not_last x l may last)) (λ h. h) after
   goes_ends rest c deed todo temps at after (with_value p temp e v is) = ⊎_elim (λ last. absurd last) (λ h. h) after
   goes_ends rest c deed todo temps at after (to_label p {l = l} label is) =
       let f = deed_fits_in x kept c.block p l rest at in
       place_ends c.block label f.block f.there (label_named (scope_of x c.block f.block) l label is f.fits.names)
-  goes_ends rest c deed todo temps at after (to_branch p {l = l} body is) = ⊎_elim (λ last. absurd (branch_not_last l body is last)) (λ h. ends_after body rest h) after
-  goes_ends rest c deed todo temps at after (to_loop p temp from upto body a b first last) = ⊎_elim (λ last. absurd last) (λ h. ends_later (Turns p temp a b body) rest h) after
+  goes_ends rest c deed todo temps at after (to_branch p {l = l} body is) = ⊎_elim
+      (λ last. absurd (branch_not_last l body is last)) (λ h. ends_after body rest h) after
+  goes_ends rest c deed todo temps at after (to_loop p temp from upto body a b first last) =
+      ⊎_elim (λ last. absurd last) (λ h. ends_later (Turns p temp a b body) rest h) after
   goes_ends rest c deed todo temps at after (to_turn p temp this end body) =
       ⊎_elim (λ last. absurd last) (λ h. ends_after body (Turns p temp (this + 1) end body ∷ rest) (ends_later (Turns p temp (this + 1) end body) rest h)) after
   goes_ends rest c deed todo temps at after (with_found p temp file field rel e label number placed is) =
@@ -168,16 +183,21 @@ module _ (x : Exchange) (kept : IsExchange x) where
       by s rest enters (ends last) = absurd (not_end (out-StmtKind s.kind) enters last)
       by s rest enters (goes more left) = ends_later (Start s) (map Do rest) (ends_text rest left)
 
-  effect_ends : (deed : Deed) (rest : List Item) (c d : Config) → DeedStands x c.block deed rest → EndsAfter deed rest → AllEndText c → Effect x deed rest c d → AllEndText d
+  effect_ends : (deed : Deed) (rest : List Item) (c d : Config) → DeedStands x c.block deed rest → EndsAfter deed rest
+      → AllEndText c → Effect x deed rest c d → AllEndText d
   effect_ends deed rest c d at after h (Goes e todo temps on) = record { here = goes_ends rest c deed todo temps at after on; callers = h.callers }
   effect_ends deed rest c d at after h (Looks e loads each) = record { here = h.here; callers = h.callers }
   effect_ends deed rest c d at after h _ = record { here = h.here; callers = h.callers }
 
-  asking_ends : (c : Config) (deed : Deed) (rest : List Item) (b signal answer : ℕ) (vs : List ℕ) → EndsAfter deed rest → IsAsking x c deed b signal answer vs → EndsText rest
-  asking_ends c deed rest b signal answer vs after (by_combined p s to values fresh name count a n ws kind sending) = ⊎_elim (λ last. absurd last) (λ h. h) after
+  asking_ends : (c : Config) (deed : Deed) (rest : List Item) (b signal answer : ℕ) (vs : List ℕ) → EndsAfter deed rest
+      → IsAsking x c deed b signal answer vs → EndsText rest
+  asking_ends c deed rest b signal answer vs after (by_combined p s to values fresh name count a n ws kind sending) =
+      ⊎_elim (λ last. absurd last) (λ h. h) after
 
-  leave_ends : (deed : Deed) (rest : List Item) (c d : Config) → DeedStands x c.block deed rest → EndsAfter deed rest → AllEndText c → Leave x deed rest c d → AllEndText d
-  leave_ends deed rest c d at after h (Begins e b signal vs is) = record { here = begins_ends b signal (beginning_received x kept c deed rest b signal vs at is); callers = h.callers }
+  leave_ends : (deed : Deed) (rest : List Item) (c d : Config) → DeedStands x c.block deed rest → EndsAfter deed rest
+      → AllEndText c → Leave x deed rest c d → AllEndText d
+  leave_ends deed rest c d at after h (Begins e b signal vs is) = record
+      { here = begins_ends b signal (beginning_received x kept c deed rest b signal vs at is); callers = h.callers }
   leave_ends deed rest c d at after h (Asks e b signal answer vs is room) = record {
     here = begins_ends b signal (asking_received x kept c deed rest b signal answer vs at is);
     callers = (asking_ends c deed rest b signal answer vs after is, h.callers);
@@ -205,7 +225,8 @@ module _ (x : Exchange) (kept : IsExchange x) where
   pub steps_end_text : (n : ℕ) (start : JobStart) (store : List ℕ) → IsJob x start.job → AllEndText (after_steps n x (begins x start store))
   steps_end_text n start store is =
       let e = some_at x.entries start.job.entry is.entry in
-      let first : EndsText (todo_of x (slice_get x.entries start.job.entry)) = subst (λ o. EndsText (todo_of x o)) (sym e.1) (begins_ends e.0.block e.0.signal (entry_begins x kept start.job.entry e.0 e.1).begins) in
+      let first : EndsText (todo_of x (slice_get x.entries start.job.entry)) = subst (λ o. EndsText (todo_of x o))
+      (sym e.1) (begins_ends e.0.block e.0.signal (entry_begins x kept start.job.entry e.0 e.1).begins) in
       (steps_keep (kept_both (rests_kept x) text_ends_kept) n (begins x start store) (start_rests x start store, record { here = first; callers = tt })).1
 
 -- something is counted next

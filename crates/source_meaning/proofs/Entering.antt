@@ -1,5 +1,6 @@
 -- The ENTER of a signal in a block, as an index of the block finds it.
-use Rattle.std.proofs.Common.{◌≡◌, ℕ, Bool, true, false, List, [], ◌∷◌, Some, None, slice_get, nat_eq, ◌||◌, Option, is_some, unwrap_or, refl, if◌then◌else◌}
+use Rattle.std.proofs.Common.{◌≡◌, ℕ, Bool, true, false, List, [], ◌∷◌, Some, None, slice_get}
+use Rattle.std.proofs.Common.{nat_eq, ◌||◌, Option, is_some, unwrap_or, refl, if◌then◌else◌}
 use Rattle.std.specs.List.{find, list_any}
 use Rattle.std.specs.Option.{option_map, option_map_or}
 use Rattle.exchange_model.specs.declared.exchange.Exchange.{Exchange}
@@ -15,7 +16,9 @@ pub row_place_is : (rows : List Row) (signal : ℕ) → unwrap_or (place_in rows
 row_place_is [] signal = refl
 row_place_is (r ∷ rows) signal = by_test (of_signal signal r) (row_place_is rows signal)
   where
-    by_test : (t : Bool) → unwrap_or (place_in rows signal) 0 ≡ row_place rows signal → unwrap_or (option_map (λ (r : Row). r.place) (if t then Some r else find (of_signal signal) rows)) 0 ≡ (if t then r.place else row_place rows signal)
+    by_test : (t : Bool) → unwrap_or (place_in rows signal) 0 ≡ row_place rows signal
+        → unwrap_or (option_map (λ (r : Row). r.place) (if t then Some r else find (of_signal signal) rows)) 0
+        ≡ (if t then r.place else row_place rows signal)
     by_test true h = refl
     by_test false h = h
 
@@ -30,7 +33,9 @@ some_row : (rows : List Row) (signal : ℕ) → is_some (place_in rows signal) �
 some_row [] signal = refl
 some_row (r ∷ rows) signal = by_test (of_signal signal r) (some_row rows signal)
   where
-    by_test : (t : Bool) → is_some (place_in rows signal) ≡ list_any (of_signal signal) rows → is_some (option_map (λ (r : Row). r.place) (if t then Some r else find (of_signal signal) rows)) ≡ (t || list_any (of_signal signal) rows)
+    by_test : (t : Bool) → is_some (place_in rows signal) ≡ list_any (of_signal signal) rows
+        → is_some (option_map (λ (r : Row). r.place) (if t then Some r else find (of_signal signal) rows))
+        ≡ (t || list_any (of_signal signal) rows)
     by_test true h = refl
     by_test false h = h
 

@@ -1,5 +1,6 @@
 -- What stands in the text of a block of an exchange is of that block.
-use Rattle.std.proofs.Common.{◌≡◌, inl, inr, ℕ, ◌≤◌, List, [], ◌∷◌, length, map, Option, Some, None, refl, sym, subst, slice_get}
+use Rattle.std.proofs.Common.{◌≡◌, inl, inr, ℕ, ◌≤◌, List, [], ◌∷◌, length, map, Option, Some, None}
+use Rattle.std.proofs.Common.{refl, sym, subst, slice_get}
 use Rattle.std.specs.List.{AllByRecursion}
 use Rattle.std.proofs.lemmas.Option.{none-some, same_Some, slice_get_past}
 use Rattle.exchange_model.specs.declared.exchange.Exchange.{Exchange}
@@ -14,18 +15,26 @@ use Rattle.exchange_model.specs.declared.stmt.Stmt.{Stmt}
 use Rattle.exchange_model.specs.declared.stmt.When.{When, out-When}
 use Rattle.exchange_model.specs.declared.stmt.StmtKind.{out-StmtKind}
 use Rattle.exchange_model.specs.declared.stmt.StmtKind.TheOpen as stmt
-use Rattle.exchange_model.specs.Fits.{AnswerFits, retrieved, Scope, ArePaired, InnerFits, ListsFit, awaited, IsTemporary, IsVariable, IsField, ExprFits, FactorFits}
+use Rattle.exchange_model.specs.Fits.{AnswerFits, retrieved, Scope, ArePaired, InnerFits, ListsFit}
+use Rattle.exchange_model.specs.Fits.{awaited, IsTemporary, IsVariable, IsField, ExprFits}
+use Rattle.exchange_model.specs.Fits.{FactorFits}
 use Rattle.exchange_model.specs.Inside.{joined}
 use Rattle.exchange_model.specs.Kept.{IsExchange, scope_of}
-use Rattle.exchange_model.proofs.Layers.{stmt_fits-out, stmt_fits-parts, expr_fits-out, term_fits-out, joined_fits-out, factor_fits-out}
-use Rattle.exchange_model.specs.PartFits.{StmtsFit, PartsFit, TermFits, JoinedFits, FactorOwnFits, InsideFits}
+use Rattle.exchange_model.proofs.Layers.{stmt_fits-out, stmt_fits-parts, expr_fits-out}
+use Rattle.exchange_model.proofs.Layers.{term_fits-out, joined_fits-out, factor_fits-out}
+use Rattle.exchange_model.specs.PartFits.{StmtsFit, PartsFit, TermFits, JoinedFits, FactorOwnFits}
+use Rattle.exchange_model.specs.PartFits.{InsideFits}
 use Rattle.source_meaning.specs.Config.{Item}
 use Rattle.source_meaning.specs.Deeds.{IsBranch}
-use Rattle.source_meaning.specs.Named.{Layer, Named, NamedVariable, NamedField, named_in, named_in_term, named_in_factor, named_in_joined}
-use Rattle.source_meaning.specs.Rests.{IsRow, whole, later, branch, turn, StandsInText, StandsAs, IsLoop, IsOfBlock}
+use Rattle.source_meaning.specs.Named.{Layer, Named, NamedVariable, NamedField, named_in}
+use Rattle.source_meaning.specs.Named.{named_in_term, named_in_factor, named_in_joined}
+use Rattle.source_meaning.specs.Rests.{IsRow, whole, later, branch, turn, StandsInText, StandsAs}
+use Rattle.source_meaning.specs.Rests.{IsLoop, IsOfBlock}
 use Rattle.plex_num.proofs.Lists.{all_append}
 use Rattle.source_meaning.proofs.Lists.{all_contained}
-use Rattle.source_meaning.proofs.Naming.{named_in-out, named_in_term-out, named-Variable, named-Field, named-Bracket, named-Number, named-Temporary, named-Reference}
+use Rattle.source_meaning.proofs.Naming.{named_in-out, named_in_term-out, named-Variable}
+use Rattle.source_meaning.proofs.Naming.{named-Field, named-Bracket, named-Number, named-Temporary}
+use Rattle.source_meaning.proofs.Naming.{named-Reference}
 use Rattle.source_meaning.proofs.Parts.{NodeParts, every_expr}
 
 -- rows
@@ -50,7 +59,12 @@ module _ (x : Exchange) (kept : IsExchange x) (b : ℕ) where
   row_fits list end (later s rest e row) = let r = row_fits (s ∷ rest) e row in record { block = r.block; there = r.there; fits = r.fits.1 }
   row_fits list end (branch s rest e body row is) =
       let r = row_fits (s ∷ rest) e row in
-      record { block = r.block; there = r.there; fits = branch_fits (scope_of x b r.block) (out-StmtKind s.kind) body (stmt_fits-parts (scope_of x b r.block) s.kind r.fits.0) is }
+      record {
+        block = r.block;
+        there = r.there;
+        fits = branch_fits (scope_of x b r.block) (out-StmtKind s.kind) body
+            (stmt_fits-parts (scope_of x b r.block) s.kind r.fits.0) is;
+      }
   row_fits list end (turn s rest e temp from upto body row is) =
       let r = row_fits (s ∷ rest) e row in
       record { block = r.block; there = r.there; fits = subst (PartsFit (scope_of x b r.block)) is (stmt_fits-parts (scope_of x b r.block) s.kind r.fits.0) }
@@ -75,15 +89,28 @@ module _ (x : Exchange) (kept : IsExchange x) (b : ℕ) where
     pub pairs : ArePaired x.signals answer list
 
   branch_paired : (scope : Scope) (l : Layer) (body : List Stmt) → scope.signals ≡ x.signals → ListsFit scope l → IsBranch l body → IsPaired body
-  branch_paired scope (stmt.If cond yes_part no_part) body same lists (inl is) = record { answer = None; pairs = subst (λ s. ArePaired s None body) same (subst (ArePaired scope.signals None) (sym is) lists.0.1) }
-  branch_paired scope (stmt.If cond yes_part no_part) body same lists (inr is) = record { answer = None; pairs = subst (λ s. ArePaired s None body) same (subst (ArePaired scope.signals None) (sym is) lists.1.1) }
-  branch_paired scope (stmt.Case value whens otherwise) body same lists (inl is) = record { answer = None; pairs = subst (λ s. ArePaired s None body) same (subst (ArePaired scope.signals None) (sym is) lists.1.1) }
+  branch_paired scope (stmt.If cond yes_part no_part) body same lists (inl is) = record {
+    answer = None;
+    pairs = subst (λ s. ArePaired s None body) same
+        (subst (ArePaired scope.signals None) (sym is) lists.0.1);
+  }
+  branch_paired scope (stmt.If cond yes_part no_part) body same lists (inr is) = record {
+    answer = None;
+    pairs = subst (λ s. ArePaired s None body) same
+        (subst (ArePaired scope.signals None) (sym is) lists.1.1);
+  }
+  branch_paired scope (stmt.Case value whens otherwise) body same lists (inl is) = record {
+    answer = None;
+    pairs = subst (λ s. ArePaired s None body) same
+        (subst (ArePaired scope.signals None) (sym is) lists.1.1);
+  }
   branch_paired scope (stmt.Case value whens otherwise) body same lists (inr is) =
       let fit = all_contained (λ (w : When). InnerFits scope (out-When w).body) whens is.0 lists.0 is.1 in
       record { answer = None; pairs = subst (λ s. ArePaired s None body) same (subst (ArePaired scope.signals None) (sym is.2) fit.1) }
   branch_paired scope _ body same lists is = absurd is
 
-  loop_paired : (block : Block) (l : Layer) (temp : ℕ) (from upto : Expr) (body : List Stmt) → l ≡ stmt.On temp from upto body → ListsFit (scope_of x b block) l → IsPaired body
+  loop_paired : (block : Block) (l : Layer) (temp : ℕ) (from upto : Expr) (body : List Stmt)
+      → l ≡ stmt.On temp from upto body → ListsFit (scope_of x b block) l → IsPaired body
   loop_paired block l temp from upto body is lists = record { answer = None; pairs = (subst (ListsFit (scope_of x b block)) is lists).1 }
 
   row_pairs : (list : List Stmt) (end : Option ℕ) → IsRow x b list end → IsPaired list
@@ -96,7 +123,8 @@ module _ (x : Exchange) (kept : IsExchange x) (b : ℕ) where
       let r = row_fits (s ∷ rest) e row in
       loop_paired r.block (out-StmtKind s.kind) temp from upto body is (stmt_fits-out (scope_of x b r.block) s.kind r.fits.0).lists
 
-  pub row_paired : (s : Stmt) (rest : List Stmt) (end : Option ℕ) → IsRow x b (s ∷ rest) end → ArePaired x.signals (awaited x.signals (out-StmtKind s.kind)) rest
+  pub row_paired : (s : Stmt) (rest : List Stmt) (end : Option ℕ) → IsRow x b (s ∷ rest) end
+      → ArePaired x.signals (awaited x.signals (out-StmtKind s.kind)) rest
   row_paired s rest end row = (row_pairs (s ∷ rest) end row).pairs.1
 
 -- what an expression of a block names is of the block
@@ -115,13 +143,16 @@ module _ (s : Scope) where
   abbrev FactorNames : Factor → Type 0
   FactorNames f = FactorOwnFits s f → AllByRecursion (NamedFits s) (named_in_factor f)
 
-  names_of_terms : (ts : List Term) → AllByRecursion TermNames ts → AllByRecursion (TermFits s) ts → AllByRecursion (NamedFits s) (joined (map named_in_term ts))
+  names_of_terms : (ts : List Term) → AllByRecursion TermNames ts → AllByRecursion (TermFits s) ts
+      → AllByRecursion (NamedFits s) (joined (map named_in_term ts))
   names_of_terms [] each fit = tt
   names_of_terms (t ∷ ts) each fit = all_append (NamedFits s) (named_in_term t) (joined (map named_in_term ts)) (each.0 fit.0) (names_of_terms ts each.1 fit.1)
 
-  names_of_factors : (js : List Joined) → AllByRecursion (λ (j : Joined). FactorNames j.factor) js → AllByRecursion (JoinedFits s) js → AllByRecursion (NamedFits s) (joined (map named_in_joined js))
+  names_of_factors : (js : List Joined) → AllByRecursion (λ (j : Joined). FactorNames j.factor) js
+      → AllByRecursion (JoinedFits s) js → AllByRecursion (NamedFits s) (joined (map named_in_joined js))
   names_of_factors [] each fit = tt
-  names_of_factors (j ∷ js) each fit = all_append (NamedFits s) (named_in_factor j.factor) (joined (map named_in_joined js)) (each.0 (joined_fits-out s j fit.0)) (names_of_factors js each.1 fit.1)
+  names_of_factors (j ∷ js) each fit = all_append (NamedFits s) (named_in_factor j.factor)
+      (joined (map named_in_joined js)) (each.0 (joined_fits-out s j fit.0)) (names_of_factors js each.1 fit.1)
 
   nothing_named : (f : Factor) → named_in_factor f ≡ [] → AllByRecursion (NamedFits s) (named_in_factor f)
   nothing_named f is = subst (AllByRecursion (NamedFits s)) (sym is) tt
@@ -129,13 +160,20 @@ module _ (s : Scope) where
   name_parts : NodeParts ExprNames TermNames FactorNames
   name_parts = record {
     expr = λ e each fit. subst (AllByRecursion (NamedFits s)) (sym (named_in-out e)) (names_of_terms (out-Expr e).terms each (expr_fits-out s e fit).1);
-    term = λ t each fit. subst (AllByRecursion (NamedFits s)) (sym (named_in_term-out t)) (names_of_factors (out-Term t).factors each (term_fits-out s t fit).1);
+    term = λ t each fit. subst (AllByRecursion (NamedFits s)) (sym (named_in_term-out t))
+        (names_of_factors (out-Term t).factors each (term_fits-out s t fit).1);
     number = λ n fit. nothing_named (factor.Number n) (named-Number n);
-    variable = λ v fit. subst (AllByRecursion (NamedFits s)) (sym (named-Variable v)) (subst (FactorFits s) (factor.outs-Variable v) (factor_fits-out s (factor.Variable v) fit).0, tt);
+    variable = λ v fit. subst (AllByRecursion (NamedFits s)) (sym (named-Variable v))
+        (subst (FactorFits s) (factor.outs-Variable v) (factor_fits-out s (factor.Variable v) fit).0, tt);
     temporary = λ t fit. nothing_named (factor.Temporary t) (named-Temporary t);
     field = λ file field pointer fit.
-        subst (AllByRecursion (NamedFits s)) (sym (named-Field file field pointer)) (subst (FactorFits s) (factor.outs-Field file field pointer) (factor_fits-out s (factor.Field file field pointer) fit).0, tt);
-    bracket = λ e inside fit. subst (AllByRecursion (NamedFits s)) (sym (named-Bracket e)) (inside (subst (InsideFits s) (factor.outs-Bracket e) (factor_fits-out s (factor.Bracket e) fit).1));
+        subst (AllByRecursion (NamedFits s)) (sym (named-Field file field pointer)) (
+          subst (FactorFits s) (factor.outs-Field file field pointer)
+              (factor_fits-out s (factor.Field file field pointer) fit).0,
+          tt,
+        );
+    bracket = λ e inside fit. subst (AllByRecursion (NamedFits s)) (sym (named-Bracket e))
+        (inside (subst (InsideFits s) (factor.outs-Bracket e) (factor_fits-out s (factor.Bracket e) fit).1));
     reference = λ b fit. nothing_named (factor.Reference b) (named-Reference b);
   }
 
@@ -148,5 +186,6 @@ fits_none : (signals : List SignalKind) (answer n : ℕ) → length signals ≤ 
 fits_none signals answer n past fits = subst (λ o. AnswerFits o n) (slice_get_past signals answer past) fits
 
 pub answer_below : (x : Exchange) (b : ℕ) (l : Layer) (answer : ℕ) → length x.signals ≤ answer → IsOfBlock x b l → retrieved l ≡ Some answer → ⊥
-answer_below x b (stmt.Retrieve m temps) answer past fits is = fits_none x.signals m (length temps) (subst (λ n. length x.signals ≤ n) (sym (same_Some m answer is)) past) fits.fits.names.0
+answer_below x b (stmt.Retrieve m temps) answer past fits is = fits_none x.signals m (length temps)
+    (subst (λ n. length x.signals ≤ n) (sym (same_Some m answer is)) past) fits.fits.names.0
 answer_below x b _ answer past fits is = none-some answer is

@@ -1,5 +1,6 @@
 -- The trace of a job grows, and tells its store.
-use Rattle.std.proofs.Common.{◌≡◌, ℕ, ◌+◌, List, [], ◌∷◌, ◌++◌, refl, sym, ap, ◌∙◌, subst, append_assoc}
+use Rattle.std.proofs.Common.{◌≡◌, ℕ, ◌+◌, List, [], ◌∷◌, ◌++◌, refl, sym, ap, ◌∙◌, subst}
+use Rattle.std.proofs.Common.{append_assoc}
 use Rattle.std.proofs.lemmas.List.{append-nil}
 use Rattle.std.specs.Prelude.{slice_set}
 use Rattle.std.specs.List.{AllByRecursion}
@@ -15,7 +16,9 @@ use Rattle.exchange_model.specs.Cells.{Placed, field_cell, mark_cell}
 use Rattle.source_meaning.specs.Config.{Item, Caller, Config}
 use Rattle.source_meaning.specs.Changes.{ends, opens_fields, opens_record}
 use Rattle.source_meaning.specs.Deeds.{Deed, IsLook}
-use Rattle.source_meaning.specs.Effects.{Effect, Looks, PutsVariable, PutsField, Seizes, Frees, Goes, Posts, Leave, Faults, Effects, Done, Then, Last, Step, NothingLeft, CountFull, Counts}
+use Rattle.source_meaning.specs.Effects.{Effect, Looks, PutsVariable, PutsField, Seizes, Frees}
+use Rattle.source_meaning.specs.Effects.{Goes, Posts, Leave, Faults, Effects, Done, Then, Last}
+use Rattle.source_meaning.specs.Effects.{Step, NothingLeft, CountFull, Counts}
 use Rattle.source_meaning.specs.Step.{step}
 use Rattle.source_meaning.specs.Value.{load_of}
 use Rattle.source_meaning.specs.Job.{begins, job, after_steps}
@@ -70,7 +73,8 @@ grows_opens p number w =
     let u = opens_fields p number 0 p.file.fields w in
     grows_on w u (writes (mark_cell p number) 0 u) (grows_fields p number 0 p.file.fields w) (grows_writes (mark_cell p number) 0 u)
 
-looks_load : (x : Exchange) (c : Config) (deed : Deed) (loads : List Touch) → AllByRecursion (IsLook x c deed) loads → AllByRecursion (IsLoad c.world.store) loads
+looks_load : (x : Exchange) (c : Config) (deed : Deed) (loads : List Touch) → AllByRecursion (IsLook x c deed) loads
+    → AllByRecursion (IsLoad c.world.store) loads
 looks_load x c deed [] each = tt
 looks_load x c deed (t ∷ loads) each = (record { cell = each.0.cell; is = each.0.is }, looks_load x c deed loads each.1)
 
@@ -110,7 +114,8 @@ grown x w = record {
 pub steps_grow : (n : ℕ) (x : Exchange) (c : Config) → Grows c.world (after_steps n x c).world
 steps_grow n x c = steps_keep (grown x c.world) n c (grows_same c.world)
 
--- a job's store is the one at its start with the stores of its trace, and each load found what stood there
+-- a job's store is the one at its start with the stores of its trace, and each load found what
+-- stood there
 pub job_store : (x : Exchange) (start : JobStart) (store : List ℕ) → (job x start store).world.store ≡ stored store (job x start store).world.trace
 unfolding job
 job_store x start store = let g = steps_grow (budget + 1) x (begins x start store) in g.store ∙ ap (stored store) (sym g.trace)

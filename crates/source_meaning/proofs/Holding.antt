@@ -1,5 +1,7 @@
--- Chains and marks that fit when a job begins fit while it runs, its own chain in the place of its forlopp's.
-use Rattle.std.proofs.Common.{◌≡◌, ℕ, ◌+◌, ◌<◌, true, List, [], ◌∷◌, ◌++◌, length, sym, ap, ◌∙◌, subst}
+-- Chains and marks that fit when a job begins fit while it runs, its own chain in the place of its
+-- forlopp's.
+use Rattle.std.proofs.Common.{◌≡◌, ℕ, ◌+◌, ◌<◌, true, List, [], ◌∷◌, ◌++◌, length, sym, ap, ◌∙◌}
+use Rattle.std.proofs.Common.{subst}
 use Rattle.std.proofs.lemmas.Bool.{eq-eqb, both_ways, false≢true}
 use Rattle.std.specs.Prelude.{slice_index, slice_set, nat_eq, not, ◌||◌, ◌≢◌}
 use Rattle.plex_limits.specs.declared.limits.TheConstants.{MOST_HELD}
@@ -12,7 +14,8 @@ use Rattle.exchange_model.specs.Kept.{IsExchange}
 use Rattle.source_meaning.specs.Config.{Item, Caller, Config, base_of}
 use Rattle.source_meaning.specs.Changes.{ends}
 use Rattle.source_meaning.specs.Deeds.{Deed}
-use Rattle.source_meaning.specs.Effects.{Effect, Looks, PutsVariable, PutsField, Seizes, Frees, Goes, Posts, Leave, Faults}
+use Rattle.source_meaning.specs.Effects.{Effect, Looks, PutsVariable, PutsField, Seizes, Frees}
+use Rattle.source_meaning.specs.Effects.{Goes, Posts, Leave, Faults}
 use Rattle.source_meaning.specs.Ranges.{IsInRange}
 use Rattle.source_meaning.specs.Rests.{AreRests, DeedStands}
 use Rattle.source_meaning.specs.Value.{may_use}
@@ -37,11 +40,13 @@ swapped : (ch : ℕ → List Held) (f : ℕ) (old new : List Held) → IsChanged
 swapped ch f old new = record { same = put_same ch f new; other = λ n apart. put_other ch f new n apart ∙ sym (put_other ch f old n apart) }
 
 -- a record of a forlopp file that a job may use is in its chain
-pub uses_own : (chain : List Held) (file : ℕ) (p : Placed) (number : ℕ) → p.file.forlopp ≡ true → may_use chain file p number ≡ true → holds chain file number ≡ true
+pub uses_own : (chain : List Held) (file : ℕ) (p : Placed) (number : ℕ) → p.file.forlopp ≡ true
+    → may_use chain file p number ≡ true → holds chain file number ≡ true
 uses_own chain file p number kind may = sym (ap (λ b. not b || holds chain file number) kind) ∙ may
 
 module _ (x : Exchange) (kept : IsExchange x) (Live : ℕ → Type 0) (ch : ℕ → List Held) (f : ℕ) (alive : f ≢ 0 → Live f) where
-  effect_holds : (deed : Deed) (rest : List Item) (c d : Config) → DeedStands x c.block deed rest → IsInRange x c → HoldsOn x Live ch f c → Effect x deed rest c d → HoldsOn x Live ch f d
+  effect_holds : (deed : Deed) (rest : List Item) (c d : Config) → DeedStands x c.block deed rest → IsInRange x c
+      → HoldsOn x Live ch f c → Effect x deed rest c d → HoldsOn x Live ch f d
   unfolding base_of
   effect_holds deed rest c d at r h (Looks e loads each) = record { forlopp = h.forlopp; bare = h.bare; books = h.books }
   effect_holds deed rest c d at r h (PutsVariable e p variable expr v is value fits) =
@@ -59,12 +64,16 @@ module _ (x : Exchange) (kept : IsExchange x) (Live : ℕ → Type 0) (ch : ℕ 
         forlopp = h.forlopp;
         bare = h.bare;
         books = books_on x kept Live (put_chain ch f c.own.chain) c.world.store _
-            (λ other n q m. field_put x kept c.world.store file number field v placed (record { there = may.there; within = pointer_within c.own.chain file placed number may.sound })
+            (λ other n q m. field_put x kept c.world.store file number field v placed
+            (record { there = may.there; within = pointer_within c.own.chain file placed number may.sound })
             (field_of x kept c.block g.block file field placed g.fits.names.0 may.there) r.store.whole other n q m) h.books;
       }
   effect_holds deed rest c d at r h (Seizes e p temp file label number placed is record_of some room free) =
       let g = deed_fits_in x kept c.block p (stmt.Seize temp file label) rest (subst (λ (a : Deed). DeedStands x c.block a rest) is at) in
-      let m : HasMark x file number placed = record { at = record { there = record_of.there; within = record_of.within }; kind = forlopp_of x kept c.block g.block file true placed g.fits.names.1 record_of.there } in
+      let m : HasMark x file number placed = record {
+        at = record { there = record_of.there; within = record_of.within };
+        kind = forlopp_of x kept c.block g.block file true placed g.fits.names.1 record_of.there;
+      } in
       let was = put_chain ch f c.own.chain in
       let more : List Held = c.own.chain ++ record { file = file; number = number } ∷ [] in
       let now = put_chain ch f more in
@@ -84,18 +93,23 @@ module _ (x : Exchange) (kept : IsExchange x) (Live : ℕ → Type 0) (ch : ℕ 
       let g = deed_fits_in x kept c.block p (stmt.Free temp file) rest (subst (λ (a : Deed). DeedStands x c.block a rest) is at) in
       let number = slice_index c.temps temp in
       let kind = forlopp_of x kept c.block g.block file true placed g.fits.names.1 may.there in
-      let m : HasMark x file number placed = record { at = record { there = may.there; within = pointer_within c.own.chain file placed number may.sound }; kind = kind } in
+      let m : HasMark x file number placed = record {
+        at = record { there = may.there; within = pointer_within c.own.chain file placed number may.sound };
+        kind = kind;
+      } in
       let mine : holds c.own.chain file number ≡ true = uses_own c.own.chain file placed number kind (pointer_own c.own.chain file placed number may.sound) in
       let was = put_chain ch f c.own.chain in
       let less = without c.own.chain file number in
       let now = put_chain ch f less in
       let own : was f ≡ c.own.chain = put_same ch f c.own.chain in
-      let changed : IsChanged was now f (without (was f) file number) = subst (λ chain. IsChanged was now f (without chain file number)) (sym own) (swapped ch f c.own.chain less) in
+      let changed : IsChanged was now f (without (was f) file number) = subst
+      (λ chain. IsChanged was now f (without chain file number)) (sym own) (swapped ch f c.own.chain less) in
       let bare_not : f ≢ 0 = λ none. false≢true (subst (λ chain. holds chain file number ≡ true) (h.bare none) mine) in
       record {
         forlopp = h.forlopp;
         bare = λ none. absurd (bare_not none);
-        books = books_free x kept Live was c.world h.books r.store.whole now f file number placed changed (alive bare_not) m (subst (λ chain. holds chain file number ≡ true) (sym own) mine);
+        books = books_free x kept Live was c.world h.books r.store.whole now f file number placed changed
+            (alive bare_not) m (subst (λ chain. holds chain file number ≡ true) (sym own) mine);
       }
   effect_holds deed rest c d at r h (Goes e todo temps on) = record { forlopp = h.forlopp; bare = h.bare; books = h.books }
   effect_holds deed rest c d at r h (Posts e to vs is room) = record { forlopp = h.forlopp; bare = h.bare; books = h.books }
@@ -108,7 +122,8 @@ module _ (x : Exchange) (kept : IsExchange x) (Live : ℕ → Type 0) (ch : ℕ 
   ends_holds [] c h = record { forlopp = h.forlopp; bare = h.bare; books = h.books }
   ends_holds (k ∷ ks) c h = record { forlopp = h.forlopp; bare = h.bare; books = h.books }
 
-  holds_kept : KeptWith x (λ c. AreRests x c × IsInRange x c) (λ b deed rest. DeedRest x b deed rest × TurnsAfter deed rest) (HoldsOn x Live ch f) (λ deed rest. Unit {0})
+  holds_kept : KeptWith x (λ c. AreRests x c × IsInRange x c)
+      (λ b deed rest. DeedRest x b deed rest × TurnsAfter deed rest) (HoldsOn x Live ch f) (λ deed rest. Unit {0})
   holds_kept = record {
     context = λ c i rest p q is. tt;
     counting = λ deed rest c at p q. record { forlopp = q.forlopp; bare = q.bare; books = q.books };
@@ -119,5 +134,6 @@ module _ (x : Exchange) (kept : IsExchange x) (Live : ℕ → Type 0) (ch : ℕ 
   }
 
   -- what stands in the text, what is in range, and what is held
-  pub all_kept : Kept x (λ c. (AreRests x c × IsInRange x c) × HoldsOn x Live ch f c) (λ b deed rest. (DeedRest x b deed rest × TurnsAfter deed rest) × Unit {0})
+  pub all_kept : Kept x (λ c. (AreRests x c × IsInRange x c) × HoldsOn x Live ch f c)
+      (λ b deed rest. (DeedRest x b deed rest × TurnsAfter deed rest) × Unit {0})
   all_kept = kept_both (in_range_kept x kept) holds_kept

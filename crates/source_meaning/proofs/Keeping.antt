@@ -7,7 +7,8 @@ use Rattle.exchange_model.specs.declared.exchange.Exchange.{Exchange}
 use Rattle.source_meaning.specs.Config.{Item, Config, next_counted}
 use Rattle.source_meaning.specs.Changes.{fails, ends}
 use Rattle.source_meaning.specs.Deeds.{Deed, deed_of, deed_point}
-use Rattle.source_meaning.specs.Effects.{Effect, Looks, Leave, Effects, Done, Then, Last, Step, NothingLeft, CountFull, Counts}
+use Rattle.source_meaning.specs.Effects.{Effect, Looks, Leave, Effects, Done, Then, Last, Step}
+use Rattle.source_meaning.specs.Effects.{NothingLeft, CountFull, Counts}
 use Rattle.source_meaning.specs.Job.{unless_over, after_steps}
 use Rattle.source_meaning.specs.Step.{step}
 use Rattle.source_meaning.proofs.Stepping.{every_step}
@@ -17,7 +18,8 @@ pub effect_block : {x : Exchange} {deed : Deed} {rest : List Item} (c d : Config
 effect_block c d (Looks e loads h) = refl
 effect_block c d _ = refl
 
--- what is shown of a step: of the item that is counted, with what remains after it, D tells what the block's text says
+-- what is shown of a step: of the item that is counted, with what remains after it, D tells what
+-- the block's text says
 pub record Kept (x : Exchange) (P : Config → Type 0) (D : ℕ → Deed → List Item → Type 0) : Type 0 where
   pub context : (c : Config) (i : Item) (rest : List Item) → P c → c.over ≡ None → next_counted c.todo ≡ i ∷ rest → D c.block (deed_of i) rest
   pub counting : (deed : Deed) (rest : List Item) (c : Config) → D c.block deed rest → P c → P (record c { own = counted (deed_point deed) c.own })
@@ -50,7 +52,8 @@ module _ {x : Exchange} {P : Config → Type 0} {D : ℕ → Deed → List Item 
       by (Some o) is more = p
 
 -- what is kept besides, where all this is; of what is counted it may tell more
-pub record KeptWith (x : Exchange) (P : Config → Type 0) (D : ℕ → Deed → List Item → Type 0) (Q : Config → Type 0) (E : Deed → List Item → Type 0) : Type 0 where
+pub record KeptWith (x : Exchange) (P : Config → Type 0) (D : ℕ → Deed → List Item → Type 0) (Q : Config → Type 0)
+    (E : Deed → List Item → Type 0) : Type 0 where
   pub context : (c : Config) (i : Item) (rest : List Item) → P c → Q c → next_counted c.todo ≡ i ∷ rest → E (deed_of i) rest
   pub counting : (deed : Deed) (rest : List Item) (c : Config) → D c.block deed rest → P c → Q c → Q (record c { own = counted (deed_point deed) c.own })
   pub effect : (deed : Deed) (rest : List Item) (c d : Config) → D c.block deed rest → E deed rest → P c → Q c → Effect x deed rest c d → Q d
@@ -58,7 +61,9 @@ pub record KeptWith (x : Exchange) (P : Config → Type 0) (D : ℕ → Deed →
   pub ending : (c : Config) → Q c → Q (ends c.callers c)
   pub full : (c : Config) → Q c → Q (fails fault.Budget c)
 
-pub kept_both : {x : Exchange} {P : Config → Type 0} {D : ℕ → Deed → List Item → Type 0} {Q : Config → Type 0} {E : Deed → List Item → Type 0} → Kept x P D → KeptWith x P D Q E → Kept x (λ c. P c × Q c) (λ b deed rest. D b deed rest × E deed rest)
+pub kept_both : {x : Exchange} {P : Config → Type 0} {D : ℕ → Deed → List Item → Type 0} {Q : Config → Type 0}
+    {E : Deed → List Item → Type 0} → Kept x P D → KeptWith x P D Q E
+    → Kept x (λ c. P c × Q c) (λ b deed rest. D b deed rest × E deed rest)
 kept_both first more = record {
   context = λ c i rest h going is. (first.context c i rest h.0 going is, more.context c i rest h.0 h.1 is);
   counting = λ deed rest c at h. (first.counting deed rest c at.0 h.0, more.counting deed rest c at.0 h.0 h.1);

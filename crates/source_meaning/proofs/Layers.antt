@@ -4,9 +4,13 @@ use Rattle.std.specs.Prelude.{slice_get, slice_index}
 use Rattle.exchange_model.specs.declared.expr.Expr.{Expr, out-Expr, fold_out-Expr}
 use Rattle.exchange_model.specs.declared.expr.Term.{Term, out-Term, fold-Term, fold_out-Term}
 use Rattle.exchange_model.specs.declared.expr.Joined.{Joined, fold-Joined, fold_out-Joined}
-use Rattle.exchange_model.specs.declared.expr.Factor.{Factor, Factor-F, out-Factor, map-Factor, fold_out-Factor}
+use Rattle.exchange_model.specs.declared.expr.Factor.{Factor, Factor-F, out-Factor, map-Factor}
+use Rattle.exchange_model.specs.declared.expr.Factor.{fold_out-Factor}
 use Rattle.exchange_model.specs.declared.expr.Factor.TheVariants as factor
-use Rattle.source_meaning.specs.Value.{Gives, Eval, Sight, Summand, Multiplier, factor_layer, expr_layer, multiplier_layer, summand_layer, sum_value, product_value, expr_value, factor_value, term_value, multiplier_of, summand_of, cell_value, field_value}
+use Rattle.source_meaning.specs.Value.{Gives, Eval, Sight, Summand, Multiplier, factor_layer}
+use Rattle.source_meaning.specs.Value.{expr_layer, multiplier_layer, summand_layer, sum_value}
+use Rattle.source_meaning.specs.Value.{product_value, expr_value, factor_value, term_value}
+use Rattle.source_meaning.specs.Value.{multiplier_of, summand_of, cell_value, field_value}
 
 -- what the fold makes of a factor in a term and of a term
 abbrev folded_joined : Joined → Multiplier
@@ -59,8 +63,11 @@ factor_value-Variable v s = ap (λ (e : Eval). e s) (factor_value-out (factor.Va
 pub factor_value-Temporary : (t : ℕ) (s : Sight) → factor_value (factor.Temporary t) s ≡ Gives [] (slice_index s.temps t)
 factor_value-Temporary t s = ap (λ (e : Eval). e s) (factor_value-out (factor.Temporary t) ∙ ap opened (factor.outs-Temporary t))
 
-pub factor_value-Field : (file field pointer : ℕ) (s : Sight) → factor_value (factor.Field file field pointer) s ≡ field_value (slice_get s.files file) file field (slice_index s.temps pointer) s
-factor_value-Field file field pointer s = ap (λ (e : Eval). e s) (factor_value-out (factor.Field file field pointer) ∙ ap opened (factor.outs-Field file field pointer))
+pub factor_value-Field : (file field pointer : ℕ) (s : Sight)
+    → factor_value (factor.Field file field pointer) s
+    ≡ field_value (slice_get s.files file) file field (slice_index s.temps pointer) s
+factor_value-Field file field pointer s = ap (λ (e : Eval). e s)
+    (factor_value-out (factor.Field file field pointer) ∙ ap opened (factor.outs-Field file field pointer))
 
 pub factor_value-Bracket : (e : Expr) (s : Sight) → factor_value (factor.Bracket e) s ≡ expr_value e s
 factor_value-Bracket e s = ap (λ (v : Eval). v s) (factor_value-out (factor.Bracket e) ∙ ap opened (factor.outs-Bracket e))

@@ -1,5 +1,6 @@
 -- The loads of an expression are those of what it names.
-use Rattle.std.proofs.Common.{◌≡◌, ℕ, zero, suc, ◌+◌, List, [], ◌∷◌, map, Option, Some, None, refl, sym, ap, subst, slice_get}
+use Rattle.std.proofs.Common.{◌≡◌, ℕ, zero, suc, ◌+◌, List, [], ◌∷◌, map, Option, Some, None, refl}
+use Rattle.std.proofs.Common.{sym, ap, subst, slice_get}
 use Rattle.std.specs.Prelude.{slice_index, ◌&&◌, ◌||◌}
 use Rattle.std.specs.List.{AllByRecursion, Contains}
 use Rattle.job_types.specs.declared.fault.Fault.{Fault}
@@ -15,12 +16,21 @@ use Rattle.exchange_model.specs.declared.expr.Cond.{Cond}
 use Rattle.exchange_model.specs.Cells.{Placed, field_cell}
 use Rattle.exchange_model.specs.Inside.{joined as all_of, cond_exprs, relation_exprs}
 use Rattle.job_types.specs.Truth.{one_if, is_set}
-use Rattle.source_meaning.specs.Named.{Named, NamedVariable, NamedField, named_in, named_in_term, named_in_factor, named_in_joined}
-use Rattle.source_meaning.specs.Value.{Got, Gives, Fails, Eval, Sight, load_of, with_value, after_loads, joined, summed, sum_value, product_value, summand_of, multiplier_of, field_value, load_or_fault, pointer_fault, expr_value, term_value, factor_value, stands, relation_value, all_value, any_value, cond_value}
-use Rattle.source_meaning.proofs.Layers.{expr_value-out, term_value-out, factor_value-Number, factor_value-Variable, factor_value-Temporary, factor_value-Field, factor_value-Bracket, factor_value-Reference}
+use Rattle.source_meaning.specs.Named.{Named, NamedVariable, NamedField, named_in, named_in_term}
+use Rattle.source_meaning.specs.Named.{named_in_factor, named_in_joined}
+use Rattle.source_meaning.specs.Value.{Got, Gives, Fails, Eval, Sight, load_of, with_value}
+use Rattle.source_meaning.specs.Value.{after_loads, joined, summed, sum_value, product_value}
+use Rattle.source_meaning.specs.Value.{summand_of, multiplier_of, field_value, load_or_fault}
+use Rattle.source_meaning.specs.Value.{pointer_fault, expr_value, term_value, factor_value, stands}
+use Rattle.source_meaning.specs.Value.{relation_value, all_value, any_value, cond_value}
+use Rattle.source_meaning.proofs.Layers.{expr_value-out, term_value-out, factor_value-Number}
+use Rattle.source_meaning.proofs.Layers.{factor_value-Variable, factor_value-Temporary}
+use Rattle.source_meaning.proofs.Layers.{factor_value-Field, factor_value-Bracket}
+use Rattle.source_meaning.proofs.Layers.{factor_value-Reference}
 use Rattle.plex_num.proofs.Lists.{all_append, all_left, all_right}
 use Rattle.source_meaning.proofs.Lists.{Within, within_left, within_right}
-use Rattle.source_meaning.proofs.Naming.{named_in-out, named_in_term-out, named-Variable, named-Field, named-Bracket}
+use Rattle.source_meaning.proofs.Naming.{named_in-out, named_in_term-out, named-Variable}
+use Rattle.source_meaning.proofs.Naming.{named-Field, named-Bracket}
 use Rattle.source_meaning.proofs.Parts.{NodeParts, every_expr}
 use Rattle.plex_num.proofs.Members.{first_is}
 
@@ -31,7 +41,8 @@ loads_in (Fails loads f) = loads
 -- the load of a variable or a field that is one of these
 pub data IsLoadOf (s : Sight) (all : List Named) (t : Touch) : Type 0 where
   of_variable : (v : ℕ) → Contains all (NamedVariable v) → t ≡ load_of s.store (s.first + v) → IsLoadOf s all t
-  of_field : (file field pointer : ℕ) (p : Placed) → Contains all (NamedField file field pointer) → slice_get s.files file ≡ Some p → pointer_fault s.chain file p (slice_index s.temps pointer) ≡ None
+  of_field : (file field pointer : ℕ) (p : Placed) → Contains all (NamedField file field pointer)
+      → slice_get s.files file ≡ Some p → pointer_fault s.chain file p (slice_index s.temps pointer) ≡ None
       → t ≡ load_of s.store (field_cell p (slice_index s.temps pointer) field) → IsLoadOf s all t
 
 -- each load of a value is so
@@ -67,25 +78,32 @@ module _ (s : Sight) (all : List Named) where
   abbrev FactorLoads : Factor → Type 0
   FactorLoads f = Within (named_in_factor f) all → LoadsAre Q (factor_value f s)
 
-  sum_loads : (ts : List Term) (sum : ℕ) → AllByRecursion TermLoads ts → Within (all_of (map named_in_term ts)) all → LoadsAre Q (sum_value (map summand_of ts) sum s)
+  sum_loads : (ts : List Term) (sum : ℕ) → AllByRecursion TermLoads ts → Within (all_of (map named_in_term ts)) all
+      → LoadsAre Q (sum_value (map summand_of ts) sum s)
   sum_loads [] sum each within = tt
   sum_loads (t ∷ ts) sum each within =
-      loads_with Q (term_value t s) (λ v. sum_value (map summand_of ts) (summed (out-Term t).minus sum v) s) (each.0 (within_left (named_in_term t) (all_of (map named_in_term ts)) all within))
+      loads_with Q (term_value t s) (λ v. sum_value (map summand_of ts) (summed (out-Term t).minus sum v) s)
+      (each.0 (within_left (named_in_term t) (all_of (map named_in_term ts)) all within))
       (λ v. sum_loads ts (summed (out-Term t).minus sum v) each.1 (within_right (named_in_term t) (all_of (map named_in_term ts)) all within))
 
-  product_loads : (js : List Joined) (product : ℕ) → AllByRecursion (λ (j : Joined). FactorLoads j.factor) js → Within (all_of (map named_in_joined js)) all → LoadsAre Q (product_value (map multiplier_of js) product s)
+  product_loads : (js : List Joined) (product : ℕ) → AllByRecursion (λ (j : Joined). FactorLoads j.factor) js
+      → Within (all_of (map named_in_joined js)) all → LoadsAre Q (product_value (map multiplier_of js) product s)
   product_loads [] product each within = tt
   product_loads (j ∷ js) product each within =
       let here = within_left (named_in_factor j.factor) (all_of (map named_in_joined js)) all within in
       let later = within_right (named_in_factor j.factor) (all_of (map named_in_joined js)) all within in
       loads_with Q (factor_value j.factor s) (λ v. with_value (joined j.by product v) (λ p. product_value (map multiplier_of js) p s)) (each.0 here)
-      (λ v. loads_with Q (joined j.by product v) (λ p. product_value (map multiplier_of js) p s) (joined_loads Q j.by product v) (λ p. product_loads js p each.1 later))
+      (λ v. loads_with Q (joined j.by product v) (λ p. product_value (map multiplier_of js) p s)
+      (joined_loads Q j.by product v) (λ p. product_loads js p each.1 later))
 
-  field_loads : (found : Option Placed) (file field pointer : ℕ) → slice_get s.files file ≡ found → Contains all (NamedField file field pointer) → LoadsAre Q (field_value found file field (slice_index s.temps pointer) s)
+  field_loads : (found : Option Placed) (file field pointer : ℕ) → slice_get s.files file ≡ found
+      → Contains all (NamedField file field pointer)
+      → LoadsAre Q (field_value found file field (slice_index s.temps pointer) s)
   field_loads None file field pointer is named = tt
   field_loads (Some p) file field pointer is named = by (pointer_fault s.chain file p (slice_index s.temps pointer)) refl
     where
-      by : (found : Option Fault) → pointer_fault s.chain file p (slice_index s.temps pointer) ≡ found → LoadsAre Q (load_or_fault found (field_cell p (slice_index s.temps pointer) field) s)
+      by : (found : Option Fault) → pointer_fault s.chain file p (slice_index s.temps pointer) ≡ found
+          → LoadsAre Q (load_or_fault found (field_cell p (slice_index s.temps pointer) field) s)
       by None sound = (of_field file field pointer p named is sound refl, tt)
       by (Some f) sound = tt
 
@@ -94,13 +112,22 @@ module _ (s : Sight) (all : List Named) where
 
   expr_parts : NodeParts ExprLoads TermLoads FactorLoads
   expr_parts = record {
-    expr = λ e each within. subst (LoadsAre Q) (sym (ap (λ (v : Eval). v s) (expr_value-out e))) (sum_loads (out-Expr e).terms 0 each (subst (λ ns. Within ns all) (named_in-out e) within));
-    term = λ t each within. subst (LoadsAre Q) (sym (ap (λ (v : Eval). v s) (term_value-out t))) (product_loads (out-Term t).factors 1 each (subst (λ ns. Within ns all) (named_in_term-out t) within));
+    expr = λ e each within. subst (LoadsAre Q) (sym (ap (λ (v : Eval). v s) (expr_value-out e)))
+        (sum_loads (out-Expr e).terms 0 each (subst (λ ns. Within ns all) (named_in-out e) within));
+    term = λ t each within. subst (LoadsAre Q) (sym (ap (λ (v : Eval). v s) (term_value-out t)))
+        (product_loads (out-Term t).factors 1 each (subst (λ ns. Within ns all) (named_in_term-out t) within));
     number = λ n within. same_loads (factor_value-Number n s) tt;
-    variable = λ v within. same_loads (factor_value-Variable v s) (of_variable v (within (NamedVariable v) (subst (λ ns. Contains ns (NamedVariable v)) (sym (named-Variable v)) (first_is (NamedVariable v) []))) refl, tt);
+    variable = λ v within. same_loads (factor_value-Variable v s) (
+      of_variable v (within (NamedVariable v)
+          (subst (λ ns. Contains ns (NamedVariable v)) (sym (named-Variable v)) (first_is (NamedVariable v) []))) refl,
+      tt,
+    );
     temporary = λ t within. same_loads (factor_value-Temporary t s) tt;
     field = λ file field pointer within. same_loads (factor_value-Field file field pointer s)
-        (field_loads (slice_get s.files file) file field pointer refl (within (NamedField file field pointer) (subst (λ ns. Contains ns (NamedField file field pointer)) (sym (named-Field file field pointer)) (first_is (NamedField file field pointer) []))));
+        (field_loads (slice_get s.files file) file field pointer refl
+        (within (NamedField file field pointer)
+        (subst (λ ns. Contains ns (NamedField file field pointer)) (sym (named-Field file field pointer))
+        (first_is (NamedField file field pointer) []))));
     bracket = λ e inside within. same_loads (factor_value-Bracket e s) (inside (subst (λ ns. Within ns all) (named-Bracket e) within));
     reference = λ b within. same_loads (factor_value-Reference b s) tt;
   }
@@ -128,7 +155,10 @@ module _ (Q : Touch → Type 0) (F : Fault → Type 0) where
   fault_with (Fails loads f) go here more = here
 
   tells_with : (got : Got) (go : ℕ → Got) → TellsLoads Q F got → ((v : ℕ) → TellsLoads Q F (go v)) → TellsLoads Q F (with_value got go)
-  tells_with got go here more = record { loads = loads_with Q got go here.loads (λ v. (more v).loads); fault = fault_with got go here.fault (λ v. (more v).fault) }
+  tells_with got go here more = record {
+    loads = loads_with Q got go here.loads (λ v. (more v).loads);
+    fault = fault_with got go here.fault (λ v. (more v).fault);
+  }
 
   pub tells_number : (v : ℕ) → TellsLoads Q F (Gives [] v)
   tells_number v = record { loads = tt; fault = tt }
@@ -146,12 +176,14 @@ module _ (Q : Touch → Type 0) (F : Fault → Type 0) where
     all_tell : (rs : List Relation) (before : ℕ) → AllByRecursion Side (relation_exprs rs) → TellsLoads Q F (all_value rs before s)
     all_tell [] before each = tells_number before
     all_tell (r ∷ rs) before each =
-        tells_with (relation_value r s) (λ v. all_value rs (one_if (is_set before && is_set v)) s) (relation_tells r each.0 each.1.0) (λ v. all_tell rs (one_if (is_set before && is_set v)) each.1.1)
+        tells_with (relation_value r s) (λ v. all_value rs (one_if (is_set before && is_set v)) s)
+        (relation_tells r each.0 each.1.0) (λ v. all_tell rs (one_if (is_set before && is_set v)) each.1.1)
 
     any_tell : (rss : List (List Relation)) (before : ℕ) → AllByRecursion Side (all_of (map relation_exprs rss)) → TellsLoads Q F (any_value rss before s)
     any_tell [] before each = tells_number before
     any_tell (rs ∷ rss) before each =
-        tells_with (all_value rs 1 s) (λ v. any_value rss (one_if (is_set before || is_set v)) s) (all_tell rs 1 (all_left Side (relation_exprs rs) (all_of (map relation_exprs rss)) each))
+        tells_with (all_value rs 1 s) (λ v. any_value rss (one_if (is_set before || is_set v)) s)
+        (all_tell rs 1 (all_left Side (relation_exprs rs) (all_of (map relation_exprs rss)) each))
         (λ v. any_tell rss (one_if (is_set before || is_set v)) (all_right Side (relation_exprs rs) (all_of (map relation_exprs rss)) each))
 
     pub cond_tells : (c : Cond) → AllByRecursion Side (cond_exprs c) → TellsLoads Q F (cond_value c s)

@@ -1,5 +1,6 @@
 -- The records of all chains of a map are those of its chains.
-use Rattle.std.proofs.Common.{◌≡◌, ◌⊎◌, inl, inr, ℕ, Bool, true, false, cond, List, [], ◌∷◌, ◌++◌, map, Some, None, refl, sym, ap, ◌∙◌, subst}
+use Rattle.std.proofs.Common.{◌≡◌, ◌⊎◌, inl, inr, ℕ, Bool, true, false, cond, List, [], ◌∷◌, ◌++◌}
+use Rattle.std.proofs.Common.{map, Some, None, refl, sym, ap, ◌∙◌, subst}
 use Rattle.std.proofs.lemmas.Bool.{eq-eqb, eqb-true, cases_Bool}
 use lib.Dec.{T}
 use Rattle.std.specs.Prelude.{◌||◌, flat_map, unwrap_or}
@@ -29,7 +30,8 @@ below_none q (e ∷ es) h =
     ap (λ b. cond b (Some e.1) (find nat_cmp q es)) (not_tied (nat_cmp q e.0) parts.0 q e.0 refl) ∙ below_none q es parts.1
 
 -- what holds of the value of each key holds of each value
-values_all : {X : Type 0} (P : X → Type 0) (es : List (ℕ × X)) → T (is_sorted nat_cmp es) → ((k : ℕ) (v : X) → find nat_cmp k es ≡ Some v → P v) → AllByRecursion P (map (λ e. e.1) es)
+values_all : {X : Type 0} (P : X → Type 0) (es : List (ℕ × X)) → T (is_sorted nat_cmp es)
+    → ((k : ℕ) (v : X) → find nat_cmp k es ≡ Some v → P v) → AllByRecursion P (map (λ e. e.1) es)
 values_all P [] h each = tt
 values_all {X} P (e ∷ es) h each =
     let parts = split (below_all nat_cmp e.0 es) (is_sorted nat_cmp es) h in (
@@ -37,14 +39,17 @@ values_all {X} P (e ∷ es) h each =
       values_all P es parts.1 (λ k v at. each k v (later k v at parts.0 (cases_Bool (eq_by_cmp nat_cmp k e.0)))),
     )
   where
-    later : (k : ℕ) (v : X) → find nat_cmp k es ≡ Some v → T (below_all nat_cmp e.0 es) → (eq_by_cmp nat_cmp k e.0 ≡ true) ⊎ (eq_by_cmp nat_cmp k e.0 ≡ false) → find nat_cmp k (e ∷ es) ≡ Some v
+    later : (k : ℕ) (v : X) → find nat_cmp k es ≡ Some v → T (below_all nat_cmp e.0 es)
+        → (eq_by_cmp nat_cmp k e.0 ≡ true) ⊎ (eq_by_cmp nat_cmp k e.0 ≡ false) → find nat_cmp k (e ∷ es) ≡ Some v
     later k v at below (inl tie) =
         let same : k ≡ e.0 = eqb-true k e.0 (sym (unsigned_tied k e.0) ∙ tie) in
         let none : find nat_cmp k es ≡ None = subst (λ n. find nat_cmp n es ≡ None) (sym same) (below_none e.0 es below) in
         cc
     later k v at below (inr other) = ap (λ b. cond b (Some e.1) (find nat_cmp k es)) other ∙ at
 
-joined_all : (P : Held → Type 0) (chains : List (List Held)) → AllByRecursion (λ (c : List Held). AllByRecursion P c) chains → AllByRecursion P (flat_map (λ (c : List Held). c) chains)
+joined_all : (P : Held → Type 0) (chains : List (List Held))
+    → AllByRecursion (λ (c : List Held). AllByRecursion P c) chains
+    → AllByRecursion P (flat_map (λ (c : List Held). c) chains)
 joined_all P [] all = tt
 joined_all P (c ∷ chains) all = all_append P c (flat_map (λ (c : List Held). c) chains) all.0 (joined_all P chains all.1)
 
@@ -72,11 +77,14 @@ holds_right (g ∷ a) b f n h = by _ (holds_right a b f n h)
     by true more = refl
     by false more = more
 
-found_in : (es : List (ℕ × List Held)) (k f n : ℕ) → holds (unwrap_or (find nat_cmp k es) []) f n ≡ true → holds (flat_map (λ (c : List Held). c) (map (λ e. e.1) es)) f n ≡ true
+found_in : (es : List (ℕ × List Held)) (k f n : ℕ) → holds (unwrap_or (find nat_cmp k es) []) f n ≡ true
+    → holds (flat_map (λ (c : List Held). c) (map (λ e. e.1) es)) f n ≡ true
 found_in [] k f n h = cc
 found_in (e ∷ es) k f n h = by (eq_by_cmp nat_cmp k e.0) h (found_in es k f n)
   where
-    by : (t : Bool) → holds (unwrap_or (cond t (Some e.1) (find nat_cmp k es)) []) f n ≡ true → (holds (unwrap_or (find nat_cmp k es) []) f n ≡ true → holds (flat_map (λ (c : List Held). c) (map (λ e. e.1) es)) f n ≡ true)
+    by : (t : Bool) → holds (unwrap_or (cond t (Some e.1) (find nat_cmp k es)) []) f n ≡ true
+        → (holds (unwrap_or (find nat_cmp k es) []) f n ≡ true
+        → holds (flat_map (λ (c : List Held). c) (map (λ e. e.1) es)) f n ≡ true)
         → holds (e.1 ++ flat_map (λ (c : List Held). c) (map (λ e. e.1) es)) f n ≡ true
     by true h more = holds_left e.1 (flat_map (λ (c : List Held). c) (map (λ e. e.1) es)) f n h
     by false h more = holds_right e.1 (flat_map (λ (c : List Held). c) (map (λ e. e.1) es)) f n (more h)

@@ -4,11 +4,13 @@ use mathlib.Core.Path.{fun_ext}
 use Rattle.exchange_model.specs.declared.expr.Expr.{Expr, out-Expr, fold_out-Expr}
 use Rattle.exchange_model.specs.declared.expr.Term.{Term, out-Term, fold-Term, fold_out-Term}
 use Rattle.exchange_model.specs.declared.expr.Joined.{Joined, fold-Joined, fold_out-Joined}
-use Rattle.exchange_model.specs.declared.expr.Factor.{Factor, Factor-F, out-Factor, fold-Factor, fold_out-Factor, map-Factor}
+use Rattle.exchange_model.specs.declared.expr.Factor.{Factor, Factor-F, out-Factor, fold-Factor}
+use Rattle.exchange_model.specs.declared.expr.Factor.{fold_out-Factor, map-Factor}
 use Rattle.exchange_model.specs.declared.expr.Factor.TheVariants as factor
 use Rattle.exchange_model.specs.declared.expr.Factor.TheOpen.{Variable, Field, Bracket}
 use Rattle.exchange_model.specs.Inside.{joined}
-use Rattle.source_meaning.specs.Named.{Named, NamedVariable, NamedField, factor_named, named_in, named_in_term, named_in_factor, named_in_joined}
+use Rattle.source_meaning.specs.Named.{Named, NamedVariable, NamedField, factor_named, named_in}
+use Rattle.source_meaning.specs.Named.{named_in_term, named_in_factor, named_in_joined}
 
 abbrev folded : Joined → List Named
 folded = fold-Joined (List Named) (List Named) (List Named) (List Named) factor_named (λ e. joined e.terms) (λ j. j.factor) (λ t. joined t.factors)
@@ -34,7 +36,9 @@ named_here (Field file field pointer) = NamedField file field pointer ∷ []
 named_here (Bracket e) = named_in e
 named_here _ = []
 
-named_inside : (l : Factor-F Factor Expr Joined Term) → factor_named (map-Factor Factor Expr Joined Term (List Named) (List Named) (List Named) (List Named) named_in_factor named_in folded named_in_term l) ≡ named_here l
+named_inside : (l : Factor-F Factor Expr Joined Term)
+    → factor_named (map-Factor Factor Expr Joined Term (List Named) (List Named) (List Named) (List Named)
+    named_in_factor named_in folded named_in_term l) ≡ named_here l
 named_inside (Variable v) = refl
 named_inside (Field file field pointer) = refl
 named_inside (Bracket e) = refl
@@ -43,7 +47,8 @@ named_inside _ = refl
 named_in_factor-out : (f : Factor) → named_in_factor f ≡ named_here (out-Factor f)
 unfolding named_in_factor named_in named_in_term
 named_in_factor-out f =
-    fold_out-Factor (List Named) (List Named) (List Named) (List Named) factor_named (λ e. joined e.terms) (λ j. j.factor) (λ t. joined t.factors) f ∙ named_inside (out-Factor f)
+    fold_out-Factor (List Named) (List Named) (List Named) (List Named) factor_named (λ e. joined e.terms)
+    (λ j. j.factor) (λ t. joined t.factors) f ∙ named_inside (out-Factor f)
 
 pub named-Variable : (v : ℕ) → named_in_factor (factor.Variable v) ≡ NamedVariable v ∷ []
 named-Variable v = named_in_factor-out (factor.Variable v) ∙ ap named_here (factor.outs-Variable v)

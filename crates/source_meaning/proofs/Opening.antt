@@ -1,5 +1,6 @@
 -- The opening is valid, where its lines fit.
-use Rattle.std.proofs.Common.{◌≡◌, ℕ, ◌<◌, ◌^◌, Bool, true, false, List, [], refl, sym, ap, ◌∙◌, subst, arith}
+use Rattle.std.proofs.Common.{◌≡◌, ℕ, ◌<◌, ◌^◌, Bool, true, false, List, [], refl, sym, ap, ◌∙◌}
+use Rattle.std.proofs.Common.{subst, arith}
 use Rattle.std.proofs.lemmas.Bool.{ltb-true, both_ways}
 use Rattle.std.proofs.lemmas.Option.{get_or_from_slice_get}
 use Rattle.std.specs.Prelude.{unwrap_or, nat_lt, ◌||◌, ◌&&◌}
@@ -12,7 +13,8 @@ use Rattle.exchange_model.specs.Cells.{field_cell, mark_cell, variable_cell}
 use Rattle.exchange_model.specs.Kept.{IsExchange}
 use Rattle.exchange_model.specs.Opening.{opening_store}
 use Rattle.exchange_model.proofs.Facts.{variable_kept, field_kept}
-use Rattle.exchange_model.proofs.Openings.{length-opening_store, opening_store-variable, opening_store-field, opening_store-mark}
+use Rattle.exchange_model.proofs.Openings.{length-opening_store, opening_store-variable}
+use Rattle.exchange_model.proofs.Openings.{opening_store-field, opening_store-mark}
 use Rattle.source_meaning.specs.Config.{files_of}
 use Rattle.source_meaning.specs.SingleRun.{opening}
 use Rattle.source_meaning.specs.State.{Coming}
@@ -25,9 +27,12 @@ unfolding files_of
 opening_fits x kept = record {
   whole = length-opening_store x.blocks ∙ sym kept.numbered.cells;
   variables = λ b v k e there own.
-      subst (λ n. n < 2 ^ e.width) (sym (get_or_from_slice_get (opening_store x.blocks) (variable_cell x.blocks b v) e.init 0 (opening_store-variable x.blocks b v k e there own))) (variable_kept x kept b v k e there own).init;
+      subst (λ n. n < 2 ^ e.width) (sym (get_or_from_slice_get (opening_store x.blocks) (variable_cell x.blocks b v)
+      e.init 0 (opening_store-variable x.blocks b v k e there own))) (variable_kept x kept b v k e there own).init;
   fields = λ file number field p e rec own.
-      subst (λ n. n < 2 ^ e.width) (sym (get_or_from_slice_get (opening_store x.blocks) (field_cell p number field) e.init 0 (opening_store-field x.blocks file number field p e rec.there rec.within own))) (field_kept x kept file field p e rec.there own).init;
+      subst (λ n. n < 2 ^ e.width) (sym (get_or_from_slice_get (opening_store x.blocks) (field_cell p number field)
+      e.init 0 (opening_store-field x.blocks file number field p e rec.there rec.within own)))
+      (field_kept x kept file field p e rec.there own).init;
 }
 
 no_chain : (n : ℕ) → chain_at fin.empty n ≡ []
@@ -53,16 +58,18 @@ opening_books x lines = record {
   apart = λ n m file number h k. cc;
   living = λ n some. absurd some;
   held = λ n file number p there h. cc;
-  free = λ file number p rec kind none. get_or_from_slice_get (opening_store x.blocks) (mark_cell p number) 0 0 (opening_store-mark x.blocks file number p rec.there rec.within kind);
+  free = λ file number p rec kind none. get_or_from_slice_get (opening_store x.blocks) (mark_cell p number) 0 0
+      (opening_store-mark x.blocks file number p rec.there rec.within kind);
 }
 
 pub opening_valid : (x : Exchange) → IsExchange x → (lines : List Coming) → LinesFit x [] lines → IsValid x (opening x lines)
-opening_valid x kept lines fits = valid_of x (opening x lines) 0 (opening_fits x kept) (books_as {Still = IsLive (opening x lines)} no_chain (λ n h. h) (opening_books x lines)) (record {
-  waiting = record { a = tt; b = tt; c = tt; d = tt };
-  some = omega arith;
-  dead = λ n dead. absurd (both_ways (is_dead none_dead n) (none_is_dead n) dead);
-  few = omega arith;
-  arrived = tt;
-  lines = fits;
-  events = tt;
-})
+opening_valid x kept lines fits = valid_of x (opening x lines) 0 (opening_fits x kept)
+    (books_as {Still = IsLive (opening x lines)} no_chain (λ n h. h) (opening_books x lines)) (record {
+      waiting = record { a = tt; b = tt; c = tt; d = tt };
+      some = omega arith;
+      dead = λ n dead. absurd (both_ways (is_dead none_dead n) (none_is_dead n) dead);
+      few = omega arith;
+      arrived = tt;
+      lines = fits;
+      events = tt;
+    })

@@ -1,11 +1,17 @@
 -- Induction over an expression by the lists of its parts.
 use Rattle.std.proofs.Common.{ℕ, sym, ap, ◌∙◌, subst}
 use Rattle.std.specs.List.{AllByRecursion}
-use Rattle.exchange_model.specs.declared.expr.Expr.{Expr, Expr', out-Expr, outs-Expr', Row_of-Term, end_of-Term, more_of-Term, items-the_row-Term, items_shown-the_row-Term-0}
-use Rattle.exchange_model.specs.declared.expr.Term.{Term, Term', out-Term, outs-Term', Row_of-Joined, end_of-Joined, more_of-Joined, items-the_row-Joined, items_shown-the_row-Joined-1}
+use Rattle.exchange_model.specs.declared.expr.Expr.{Expr, Expr', out-Expr, outs-Expr', Row_of-Term}
+use Rattle.exchange_model.specs.declared.expr.Expr.{end_of-Term, more_of-Term, items-the_row-Term}
+use Rattle.exchange_model.specs.declared.expr.Expr.{items_shown-the_row-Term-0}
+use Rattle.exchange_model.specs.declared.expr.Term.{Term, Term', out-Term, outs-Term'}
+use Rattle.exchange_model.specs.declared.expr.Term.{Row_of-Joined, end_of-Joined, more_of-Joined}
+use Rattle.exchange_model.specs.declared.expr.Term.{items-the_row-Joined}
+use Rattle.exchange_model.specs.declared.expr.Term.{items_shown-the_row-Joined-1}
 use Rattle.exchange_model.specs.declared.expr.Joined.{Joined}
 use Rattle.exchange_model.specs.declared.expr.Factor.{Factor}
-use Rattle.exchange_model.specs.declared.expr.Factor.TheVariants.{Number, Variable, Temporary, Field, Bracket, Reference}
+use Rattle.exchange_model.specs.declared.expr.Factor.TheVariants.{Number, Variable, Temporary}
+use Rattle.exchange_model.specs.declared.expr.Factor.TheVariants.{Field, Bracket, Reference}
 
 -- what is to be shown at each node, where it holds of the node's parts
 pub record NodeParts (P : Expr → Type 0) (Q : Term → Type 0) (R : Factor → Type 0) : Type 0 where

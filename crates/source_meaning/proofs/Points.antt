@@ -1,5 +1,7 @@
 -- Each statement of the text of an exchange has its point.
-use Rattle.std.proofs.Common.{◌≡◌, inl, inr, ℕ, zero, suc, ◌+◌, ◌<◌, List, [], ◌∷◌, ◌++◌, map, length, get_or, Option, Some, refl, sym, ap, ◌∙◌, subst, slice_get, arith, length-append}
+use Rattle.std.proofs.Common.{◌≡◌, inl, inr, ℕ, zero, suc, ◌+◌, ◌<◌, List, [], ◌∷◌, ◌++◌, map}
+use Rattle.std.proofs.Common.{length, get_or, Option, Some, refl, sym, ap, ◌∙◌, subst, slice_get}
+use Rattle.std.proofs.Common.{arith, length-append}
 use Rattle.std.proofs.lemmas.List.{length-map}
 use Rattle.std.proofs.lemmas.List.Elements.{Contains-append_left, Contains-append_right}
 use Rattle.std.proofs.lemmas.List.FromFn.{length-range_with_len, get_or-range_with_len}
@@ -31,18 +33,24 @@ within_joined f (y ∷ xs) (suc i) x there = λ b at. Contains-append_right (f y
 within_member : {A B : Type 0} (f : A → List B) (xs : List A) (x : A) → Contains xs x → Within (f x) (joined (map f xs))
 within_member f [] x h = absurd (let lt = h.1 in omega arith)
 within_member f (y ∷ xs) x (zero, lt, is) = λ b at. Contains-append_left (f y) (joined (map f xs)) b (subst (λ z. Contains (f z) b) (sym is) at)
-within_member f (y ∷ xs) x (suc i, lt, is) = λ b at. Contains-append_right (f y) (joined (map f xs)) b (within_member f xs x (i, (let h = lt in omega arith), is) b at)
+within_member f (y ∷ xs) x (suc i, lt, is) = λ b at. Contains-append_right (f y) (joined (map f xs)) b
+    (within_member f xs x (i, (let h = lt in omega arith), is) b at)
 
 -- the statements in a branch are among those in the statement
 branch_spots : (l : Layer) (body : List Stmt) → IsBranch l body → Within (spots body) (parts_spots l)
-branch_spots (stmt.If cond yes_part no_part) body (inl is) = λ z at. Contains-append_left (spots yes_part) (spots no_part) z (subst (λ b. Contains (spots b) z) is at)
-branch_spots (stmt.If cond yes_part no_part) body (inr is) = λ z at. Contains-append_right (spots yes_part) (spots no_part) z (subst (λ b. Contains (spots b) z) is at)
-branch_spots (stmt.Case value whens otherwise) body (inl is) = λ z at. Contains-append_right (joined (map when_spots whens)) (spots otherwise) z (subst (λ b. Contains (spots b) z) is at)
+branch_spots (stmt.If cond yes_part no_part) body (inl is) = λ z at. Contains-append_left (spots yes_part)
+    (spots no_part) z (subst (λ b. Contains (spots b) z) is at)
+branch_spots (stmt.If cond yes_part no_part) body (inr is) = λ z at. Contains-append_right (spots yes_part)
+    (spots no_part) z (subst (λ b. Contains (spots b) z) is at)
+branch_spots (stmt.Case value whens otherwise) body (inl is) = λ z at. Contains-append_right
+    (joined (map when_spots whens)) (spots otherwise) z (subst (λ b. Contains (spots b) z) is at)
 branch_spots (stmt.Case value whens otherwise) body (inr is) =
-    λ z at. Contains-append_left (joined (map when_spots whens)) (spots otherwise) z (within_member when_spots whens is.0 is.1 z (subst (λ b. Contains (spots b) z) is.2 at))
+    λ z at. Contains-append_left (joined (map when_spots whens)) (spots otherwise) z
+    (within_member when_spots whens is.0 is.1 z (subst (λ b. Contains (spots b) z) is.2 at))
 branch_spots _ body is = absurd is
 
-inside_spots : (s : Stmt) (rest : List Stmt) (body : List Stmt) → Within (spots body) (parts_spots (out-StmtKind s.kind)) → Within (spots body) (spots (s ∷ rest))
+inside_spots : (s : Stmt) (rest : List Stmt) (body : List Stmt)
+    → Within (spots body) (parts_spots (out-StmtKind s.kind)) → Within (spots body) (spots (s ∷ rest))
 inside_spots s rest body within z at =
     let inner : Contains (inner_spots s.kind) z = subst (λ l. Contains l z) (sym (inner_spots-out s.kind)) (within z at) in
     Contains-append_left (stmt_spots s) (spots rest) z (later_is (record { point = s.point; line = s.line }) z (inner_spots s.kind) inner)
@@ -52,12 +60,15 @@ module _ (x : Exchange) (b : ℕ) where
   row_spots : (list : List Stmt) (end : Option ℕ) → IsRow x b list end → Within (spots list) (all_spots x.blocks)
   row_spots list end (whole k there) = within_joined (λ (k : Block). spots k.body) x.blocks b k there
   row_spots list end (later s rest e row) = λ z at. row_spots (s ∷ rest) e row z (Contains-append_right (stmt_spots s) (spots rest) z at)
-  row_spots list end (branch s rest e body row is) = λ z at. row_spots (s ∷ rest) e row z (inside_spots s rest body (branch_spots (out-StmtKind s.kind) body is) z at)
+  row_spots list end (branch s rest e body row is) = λ z at. row_spots (s ∷ rest) e row z
+      (inside_spots s rest body (branch_spots (out-StmtKind s.kind) body is) z at)
   row_spots list end (turn s rest e temp from upto body row is) =
       λ z at. row_spots (s ∷ rest) e row z (inside_spots s rest body (λ y here. subst (λ l. Contains (parts_spots l) y) (sym is) here) z at)
 
-  row_spot : (s : Stmt) (rest : List Stmt) (end : Option ℕ) → IsRow x b (s ∷ rest) end → Contains (all_spots x.blocks) (record { point = s.point; line = s.line })
-  row_spot s rest end row = row_spots (s ∷ rest) end row (record { point = s.point; line = s.line }) (first_is (record { point = s.point; line = s.line }) (inner_spots s.kind ++ spots rest))
+  row_spot : (s : Stmt) (rest : List Stmt) (end : Option ℕ) → IsRow x b (s ∷ rest) end
+      → Contains (all_spots x.blocks) (record { point = s.point; line = s.line })
+  row_spot s rest end row = row_spots (s ∷ rest) end row (record { point = s.point; line = s.line })
+      (first_is (record { point = s.point; line = s.line }) (inner_spots s.kind ++ spots rest))
 
 pub points_many : (b : ℕ) (blocks : List Block) → length (points_from b blocks) ≡ length (all_spots blocks)
 unfolding points_from
@@ -83,7 +94,8 @@ module _ (x : Exchange) (kept : IsExchange x) where
   spot_below : (p line : ℕ) → Contains (all_spots x.blocks) (record { point = p; line = line }) → p < length x.points
   spot_below p line h =
       let point : PointLine → ℕ = λ s. s.point in
-      let at : Contains (range_with_len 0 (length (all_spots x.blocks))) p = subst (λ l. Contains l p) kept.numbered.statements (in_map point (all_spots x.blocks) (record { point = p; line = line }) h) in
+      let at : Contains (range_with_len 0 (length (all_spots x.blocks))) p = subst (λ l. Contains l p)
+      kept.numbered.statements (in_map point (all_spots x.blocks) (record { point = p; line = line }) h) in
       let below = range_below (length (all_spots x.blocks)) p at in
       let many : length x.points ≡ length (all_spots x.blocks) = ap length kept.numbered.points ∙ points_many 0 x.blocks in
       omega arith
@@ -105,9 +117,11 @@ some_spots signals b (k ∷ blocks) some = by k.body refl (some_spots signals (b
     many : length (all_spots (k ∷ blocks)) ≡ length (spots k.body) + length (all_spots blocks)
     many = length-append (spots k.body) (all_spots blocks)
 
-    by : (body : List Stmt) → k.body ≡ body → (0 < length (entries_from signals (b + 1) blocks) → 0 < length (all_spots blocks)) → 0 < length (all_spots (k ∷ blocks))
+    by : (body : List Stmt) → k.body ≡ body → (0 < length (entries_from signals (b + 1) blocks)
+        → 0 < length (all_spots blocks)) → 0 < length (all_spots (k ∷ blocks))
     by [] is more =
-        let none : length (entries_from signals b (k ∷ blocks)) ≡ length (entries_from signals (b + 1) blocks) = ap (λ l. length (entries_in signals b l ++ entries_from signals (b + 1) blocks)) is in
+        let none : length (entries_from signals b (k ∷ blocks)) ≡ length (entries_from signals (b + 1) blocks) =
+        ap (λ l. length (entries_in signals b l ++ entries_from signals (b + 1) blocks)) is in
         let rest = more (omega arith) in
         omega (arith, many)
     by (s ∷ rest) is more =

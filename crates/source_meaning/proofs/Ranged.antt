@@ -5,10 +5,13 @@ use Rattle.job_types.specs.declared.outcome.Outcome.{Outcome}
 use Rattle.job_types.specs.declared.outcome.Outcome.TheVariants.{Ended, Faulted}
 use Rattle.job_types.specs.Own.{World, budget}
 use Rattle.source_meaning.specs.Changes.{activates, ends}
-use Rattle.source_meaning.specs.Effects.{with_caller, Effect, Looks, PutsVariable, PutsField, Seizes, Frees, Goes, Posts, Leave, Begins, Asks, Returns, Ends, Faults}
+use Rattle.source_meaning.specs.Effects.{with_caller, Effect, Looks, PutsVariable, PutsField}
+use Rattle.source_meaning.specs.Effects.{Seizes, Frees, Goes, Posts, Leave, Begins, Asks, Returns}
+use Rattle.source_meaning.specs.Effects.{Ends, Faults}
 use Rattle.source_meaning.specs.Ranges.{OverFits, IsTurnWord, CallerInRange, SentFits, IsInRange}
 use Rattle.source_meaning.specs.Valid.{IsWord, IsJob, StoreFits}
-use Rattle.std.proofs.Common.{ℕ, ◌+◌, List, [], ◌∷◌, Option, Some, None, subst, slice_get, arith, length-append}
+use Rattle.std.proofs.Common.{ℕ, ◌+◌, List, [], ◌∷◌, Option, Some, None, subst, slice_get, arith}
+use Rattle.std.proofs.Common.{length-append}
 use Rattle.std.specs.List.{AllByRecursion}
 use Rattle.job_types.specs.declared.job.JobStart.{JobStart}
 use Rattle.job_types.specs.declared.outbox.Sent.{Sent}
@@ -25,11 +28,15 @@ use Rattle.plex_num.proofs.Lists.{all_append}
 use Rattle.source_meaning.proofs.Points.{deed_below, some_point}
 use Rattle.source_meaning.proofs.Rests.{DeedRest, rests_kept, start_rests}
 use Rattle.source_meaning.proofs.Sending.{posting_fits}
-use Rattle.source_meaning.proofs.Ranging.{words_eight, words_blank, turns_signal, turns_counted, item_turns, TurnsAfter, posting_small, beginning_small, asking_small, values_small, goes_turns, goes_temps, store_fits}
+use Rattle.source_meaning.proofs.Ranging.{words_eight, words_blank, turns_signal, turns_counted}
+use Rattle.source_meaning.proofs.Ranging.{item_turns, TurnsAfter, posting_small, beginning_small}
+use Rattle.source_meaning.proofs.Ranging.{asking_small, values_small, goes_turns, goes_temps}
+use Rattle.source_meaning.proofs.Ranging.{store_fits}
 
 module _ (x : Exchange) where
   -- other words, another chain, another outcome
-  other_range : (c : Config) (w : World) (chain : List Held) (o : Option Outcome) → StoreFits x w.store → OverFits x o → IsInRange x c → IsInRange x (record c { world = w; own = record c.own { chain = chain }; over = o })
+  other_range : (c : Config) (w : World) (chain : List Held) (o : Option Outcome) → StoreFits x w.store → OverFits x o
+      → IsInRange x c → IsInRange x (record c { world = w; own = record c.own { chain = chain }; over = o })
   other_range c w chain o store over h = record {
     store = store;
     temps = h.temps;
@@ -43,7 +50,8 @@ module _ (x : Exchange) where
     over = over;
   }
 
-  words_range : (c : Config) (w : World) (chain : List Held) → StoreFits x w.store → IsInRange x c → IsInRange x (record c { world = w; own = record c.own { chain = chain } })
+  words_range : (c : Config) (w : World) (chain : List Held) → StoreFits x w.store → IsInRange x c
+      → IsInRange x (record c { world = w; own = record c.own { chain = chain } })
   words_range c w chain store h = other_range c w chain c.over store h.over h
 
   over_range : (c : Config) (o : Option Outcome) → OverFits x o → IsInRange x c → IsInRange x (record c { over = o })
@@ -84,7 +92,8 @@ module _ (x : Exchange) where
   ends_ranges (k ∷ ks) c h = over_range c (Some (Faulted fault.BadEnd c.own.point)) h.point h
 
 module _ (x : Exchange) (kept : IsExchange x) where
-  effect_ranges : (deed : Deed) (rest : List Item) (c d : Config) → DeedStands x c.block deed rest → TurnsAfter deed rest → IsInRange x c → Effect x deed rest c d → IsInRange x d
+  effect_ranges : (deed : Deed) (rest : List Item) (c d : Config) → DeedStands x c.block deed rest
+      → TurnsAfter deed rest → IsInRange x c → Effect x deed rest c d → IsInRange x d
   effect_ranges deed rest c d at more h (Goes e todo temps on) = record {
     store = h.store;
     temps = goes_temps x kept rest c deed todo temps at more h on;
@@ -104,7 +113,8 @@ module _ (x : Exchange) (kept : IsExchange x) where
     answers = h.answers;
     turns = h.turns;
     callers = h.callers;
-    sends = all_append (λ (m : Sent). SentFits x m.to m.values) c.own.sends (record { to = to; values = vs } ∷ []) h.sends (posting_fits x kept c deed rest to vs at is (posting_small x kept c deed rest to vs at h is), tt);
+    sends = all_append (λ (m : Sent). SentFits x m.to m.values) c.own.sends (record { to = to; values = vs } ∷ [])
+        h.sends (posting_fits x kept c deed rest to vs at is (posting_small x kept c deed rest to vs at h is), tt);
     few = let long = length-append c.own.sends (record { to = to; values = vs } ∷ []) in omega arith;
     point = h.point;
     over = h.over;
@@ -119,13 +129,16 @@ module _ (x : Exchange) (kept : IsExchange x) where
   effect_ranges deed rest c d at more h (Frees e p temp file placed is may) =
       words_range x c d.world d.own.chain (store_fits x kept deed rest c d at h.store (Frees e p temp file placed is may)) h
 
-  leave_ranges : (deed : Deed) (rest : List Item) (c d : Config) → DeedStands x c.block deed rest → TurnsAfter deed rest → IsInRange x c → Leave x deed rest c d → IsInRange x d
+  leave_ranges : (deed : Deed) (rest : List Item) (c d : Config) → DeedStands x c.block deed rest → TurnsAfter deed rest
+      → IsInRange x c → Leave x deed rest c d → IsInRange x d
   leave_ranges deed rest c d at more h (Begins e b signal vs is) = activation_range x c b signal vs (beginning_small x kept c deed rest b signal vs at h is) h
   leave_ranges deed rest c d at more h (Asks e b signal answer vs is room) =
-      activation_range x (with_caller answer rest c) b signal vs (asking_small x kept c deed rest b signal answer vs at h is) (caller_range x c answer rest more.1 h)
+      activation_range x (with_caller answer rest c) b signal vs
+      (asking_small x kept c deed rest b signal answer vs at h is) (caller_range x c answer rest more.1 h)
   leave_ranges deed rest c d at more h (Returns e p answer values vs k ks is given some same) =
       let waiting : AllByRecursion CallerInRange (k ∷ ks) = subst (AllByRecursion CallerInRange) some h.callers in
-      let small = values_small x kept c (Doing p (stmt.Return answer values)) rest values vs (subst (λ (a : Deed). DeedStands x c.block a rest) is at) h (λ e there. there) given in
+      let small = values_small x kept c (Doing p (stmt.Return answer values)) rest values vs
+      (subst (λ (a : Deed). DeedStands x c.block a rest) is at) h (λ e there. there) given in
       record {
         store = h.store;
         temps = waiting.0.temps;
@@ -184,7 +197,8 @@ module _ (x : Exchange) (kept : IsExchange x) where
   pub in_range_kept : Kept x (λ c. AreRests x c × IsInRange x c) (λ b deed rest. DeedRest x b deed rest × TurnsAfter deed rest)
   in_range_kept = kept_both (rests_kept x) ranges_kept
 
-  pub steps_in_range : (n : ℕ) (start : JobStart) (store : List ℕ) → IsJob x start.job → StoreFits x store → IsInRange x (after_steps n x (begins x start store))
+  pub steps_in_range : (n : ℕ) (start : JobStart) (store : List ℕ) → IsJob x start.job → StoreFits x store
+      → IsInRange x (after_steps n x (begins x start store))
   steps_in_range n start store is fits = (steps_keep in_range_kept n (begins x start store) (start_rests x start store, start_ranges start store is fits)).1
 
   pub job_in_range : (start : JobStart) (store : List ℕ) → IsJob x start.job → StoreFits x store → IsInRange x (job x start store)

@@ -1,5 +1,6 @@
 -- A value depends on the words that it loads, and on no others.
-use Rattle.std.proofs.Common.{◌≡◌, ℕ, ◌+◌, List, [], ◌∷◌, map, Option, Some, None, refl, sym, ap, ◌∙◌, subst, slice_get}
+use Rattle.std.proofs.Common.{◌≡◌, ℕ, ◌+◌, List, [], ◌∷◌, map, Option, Some, None, refl, sym, ap}
+use Rattle.std.proofs.Common.{◌∙◌, subst, slice_get}
 use Rattle.std.specs.Prelude.{slice_index, ◌&&◌, ◌||◌}
 use Rattle.std.specs.List.{AllByRecursion}
 use Rattle.job_types.specs.declared.fault.Fault.{Fault}
@@ -15,8 +16,16 @@ use Rattle.exchange_model.specs.declared.expr.Cond.{Cond}
 use Rattle.exchange_model.specs.declared.stmt.Holder.{Holder}
 use Rattle.exchange_model.specs.declared.stmt.Holder.TheVariants as holder
 use Rattle.exchange_model.specs.Cells.{Placed, field_cell}
-use Rattle.source_meaning.specs.Value.{Got, Gives, Fails, Eval, Sight, with_value, after_loads, joined, summed, sum_value, product_value, summand_of, multiplier_of, field_value, load_or_fault, pointer_fault, cell_value, expr_value, term_value, factor_value, holder_value, stands, relation_value, all_value, any_value, cond_value}
-use Rattle.source_meaning.proofs.Layers.{expr_value-out, term_value-out, factor_value-Number, factor_value-Variable, factor_value-Temporary, factor_value-Field, factor_value-Bracket, factor_value-Reference}
+use Rattle.source_meaning.specs.Value.{Got, Gives, Fails, Eval, Sight, with_value, after_loads}
+use Rattle.source_meaning.specs.Value.{joined, summed, sum_value, product_value, summand_of}
+use Rattle.source_meaning.specs.Value.{multiplier_of, field_value, load_or_fault, pointer_fault}
+use Rattle.source_meaning.specs.Value.{cell_value, expr_value, term_value, factor_value}
+use Rattle.source_meaning.specs.Value.{holder_value, stands, relation_value, all_value, any_value}
+use Rattle.source_meaning.specs.Value.{cond_value}
+use Rattle.source_meaning.proofs.Layers.{expr_value-out, term_value-out, factor_value-Number}
+use Rattle.source_meaning.proofs.Layers.{factor_value-Variable, factor_value-Temporary}
+use Rattle.source_meaning.proofs.Layers.{factor_value-Field, factor_value-Bracket}
+use Rattle.source_meaning.proofs.Layers.{factor_value-Reference}
 use Rattle.plex_num.proofs.Lists.{all_left, all_right}
 use Rattle.source_meaning.proofs.Loads.{loads_in}
 use Rattle.source_meaning.proofs.Parts.{NodeParts, every_expr}
@@ -38,7 +47,8 @@ module _ (t : List ℕ) where
   after_finds loads (Gives ls v) h = (all_left (FoundIn t) loads ls h, all_right (FoundIn t) loads ls h)
   after_finds loads (Fails ls f) h = (all_left (FoundIn t) loads ls h, all_right (FoundIn t) loads ls h)
 
-  reads_with : (got got' : Got) (go go' : ℕ → Got) → Finds t (with_value got go) → (Finds t got → got' ≡ got) → ((v : ℕ) → Finds t (go v) → go' v ≡ go v) → with_value got' go' ≡ with_value got go
+  reads_with : (got got' : Got) (go go' : ℕ → Got) → Finds t (with_value got go) → (Finds t got → got' ≡ got)
+      → ((v : ℕ) → Finds t (go v) → go' v ≡ go v) → with_value got' go' ≡ with_value got go
   reads_with (Gives loads v) got' go go' h first more =
       let parts = after_finds loads (go v) h in
       ap (λ g. with_value g go') (first parts.0) ∙ ap (after_loads loads) (more v parts.1)
@@ -58,13 +68,17 @@ module _ (t : List ℕ) where
     same_reads : (u v : Eval) → u ≡ v → (Finds t (v s) → v (over t s) ≡ v s) → Finds t (u s) → u (over t s) ≡ u s
     same_reads u v is h = subst (λ (z : Eval). Finds t (z s) → z (over t s) ≡ z s) (sym is) h
 
-    sum_reads : (ts : List Term) (sum : ℕ) → AllByRecursion TermReads ts → Finds t (sum_value (map summand_of ts) sum s) → sum_value (map summand_of ts) sum (over t s) ≡ sum_value (map summand_of ts) sum s
+    sum_reads : (ts : List Term) (sum : ℕ) → AllByRecursion TermReads ts → Finds t (sum_value (map summand_of ts) sum s)
+        → sum_value (map summand_of ts) sum (over t s) ≡ sum_value (map summand_of ts) sum s
     sum_reads [] sum each h = refl
     sum_reads (e ∷ ts) sum each h =
         let rest = λ (z : Sight) (v : ℕ). sum_value (map summand_of ts) (summed (out-Term e).minus sum v) z in
-        reads_with (term_value e s) (term_value e (over t s)) (rest s) (rest (over t s)) h each.0 (λ v k. sum_reads ts (summed (out-Term e).minus sum v) each.1 k)
+        reads_with (term_value e s) (term_value e (over t s)) (rest s) (rest (over t s)) h each.0
+        (λ v k. sum_reads ts (summed (out-Term e).minus sum v) each.1 k)
 
-    product_reads : (js : List Joined) (product : ℕ) → AllByRecursion (λ (j : Joined). FactorReads j.factor) js → Finds t (product_value (map multiplier_of js) product s) → product_value (map multiplier_of js) product (over t s) ≡ product_value (map multiplier_of js) product s
+    product_reads : (js : List Joined) (product : ℕ) → AllByRecursion (λ (j : Joined). FactorReads j.factor) js
+        → Finds t (product_value (map multiplier_of js) product s)
+        → product_value (map multiplier_of js) product (over t s) ≡ product_value (map multiplier_of js) product s
     product_reads [] product each h = refl
     product_reads (j ∷ js) product each h =
         let last = λ (z : Sight) (p : ℕ). product_value (map multiplier_of js) p z in
@@ -79,16 +93,19 @@ module _ (t : List ℕ) where
     fault_reads None cell h = cell_reads cell h
     fault_reads (Some f) cell h = refl
 
-    field_reads : (found : Option Placed) (file field number : ℕ) → Finds t (field_value found file field number s) → field_value found file field number (over t s) ≡ field_value found file field number s
+    field_reads : (found : Option Placed) (file field number : ℕ) → Finds t (field_value found file field number s)
+        → field_value found file field number (over t s) ≡ field_value found file field number s
     field_reads None file field number h = refl
     field_reads (Some p) file field number h = fault_reads (pointer_fault s.chain file p number) (field_cell p number field) h
 
     expr_parts : NodeParts ExprReads TermReads FactorReads
     expr_parts = record {
       expr = λ e each. same_reads (expr_value e) (sum_value (map summand_of (out-Expr e).terms) 0) (expr_value-out e) (sum_reads (out-Expr e).terms 0 each);
-      term = λ e each. same_reads (term_value e) (product_value (map multiplier_of (out-Term e).factors) 1) (term_value-out e) (product_reads (out-Term e).factors 1 each);
+      term = λ e each. same_reads (term_value e) (product_value (map multiplier_of (out-Term e).factors) 1)
+          (term_value-out e) (product_reads (out-Term e).factors 1 each);
       number = λ n h. factor_value-Number n (over t s) ∙ sym (factor_value-Number n s);
-      variable = λ v h. factor_value-Variable v (over t s) ∙ cell_reads (s.first + v) (subst (Finds t) (factor_value-Variable v s) h) ∙ sym (factor_value-Variable v s);
+      variable = λ v h. factor_value-Variable v (over t s)
+          ∙ cell_reads (s.first + v) (subst (Finds t) (factor_value-Variable v s) h) ∙ sym (factor_value-Variable v s);
       temporary = λ n h. factor_value-Temporary n (over t s) ∙ sym (factor_value-Temporary n s);
       field = λ file field pointer h. factor_value-Field file field pointer (over t s)
           ∙ field_reads (slice_get s.files file) file field (slice_index s.temps pointer) (subst (Finds t) (factor_value-Field file field pointer s) h)
@@ -111,13 +128,15 @@ module _ (t : List ℕ) where
     all_reads [] before h = refl
     all_reads (r ∷ rs) before h =
         let rest = λ (z : Sight) (v : ℕ). all_value rs (one_if (is_set before && is_set v)) z in
-        reads_with (relation_value r s) (relation_value r (over t s)) (rest s) (rest (over t s)) h (relation_reads r) (λ v k. all_reads rs (one_if (is_set before && is_set v)) k)
+        reads_with (relation_value r s) (relation_value r (over t s)) (rest s) (rest (over t s)) h (relation_reads r)
+        (λ v k. all_reads rs (one_if (is_set before && is_set v)) k)
 
     any_reads : (rss : List (List Relation)) (before : ℕ) → Finds t (any_value rss before s) → any_value rss before (over t s) ≡ any_value rss before s
     any_reads [] before h = refl
     any_reads (rs ∷ rss) before h =
         let rest = λ (z : Sight) (v : ℕ). any_value rss (one_if (is_set before || is_set v)) z in
-        reads_with (all_value rs 1 s) (all_value rs 1 (over t s)) (rest s) (rest (over t s)) h (all_reads rs 1) (λ v k. any_reads rss (one_if (is_set before || is_set v)) k)
+        reads_with (all_value rs 1 s) (all_value rs 1 (over t s)) (rest s) (rest (over t s)) h (all_reads rs 1)
+        (λ v k. any_reads rss (one_if (is_set before || is_set v)) k)
 
     pub cond_reads : (c : Cond) → Finds t (cond_value c s) → cond_value c (over t s) ≡ cond_value c s
     cond_reads c h = any_reads c.any 0 h

@@ -1,5 +1,7 @@
 -- What remains to be done stays of the text of its block.
-use Rattle.std.proofs.Common.{◌≡◌, ◌⊎◌, inl, inr, ⊎_elim, ℕ, zero, suc, ◌+◌, ◌≤◌, Bool, true, false, List, [], ◌∷◌, ◌++◌, map, drop, Option, Some, None, refl, sym, ap, ◌∙◌, subst, slice_get}
+use Rattle.std.proofs.Common.{◌≡◌, ◌⊎◌, inl, inr, ⊎_elim, ℕ, zero, suc, ◌+◌, ◌≤◌, Bool, true, false}
+use Rattle.std.proofs.Common.{List, [], ◌∷◌, ◌++◌, map, drop, Option, Some, None, refl, sym, ap}
+use Rattle.std.proofs.Common.{◌∙◌, subst, slice_get}
 use Rattle.std.proofs.lemmas.Bool.{ltb-false}
 use Rattle.std.proofs.lemmas.List.{append-nil}
 use Rattle.std.proofs.Math.Seq.{drop-nil}
@@ -12,13 +14,20 @@ use Rattle.exchange_model.specs.declared.block.Block.{Block}
 use Rattle.exchange_model.specs.declared.entry.Entry.{Entry}
 use Rattle.exchange_model.specs.declared.stmt.Stmt.{Stmt}
 use Rattle.exchange_model.specs.declared.stmt.StmtKind.{out-StmtKind}
-use Rattle.source_meaning.specs.Config.{Item, Do, Start, Turns, Caller, Config, body_of, label_of, enter_place, from_place, starting, from_signal, next_counted}
+use Rattle.source_meaning.specs.Config.{Item, Do, Start, Turns, Caller, Config, body_of, label_of}
+use Rattle.source_meaning.specs.Config.{enter_place, from_place, starting, from_signal}
+use Rattle.source_meaning.specs.Config.{next_counted}
 use Rattle.exchange_model.specs.Kept.{is_enter}
 use Rattle.source_meaning.specs.Changes.{ends}
-use Rattle.source_meaning.specs.Deeds.{Deed, deed_of, IsBranch, GoesOn, to_next, with_value, to_label, to_branch, to_loop, to_turn, with_found, with_seized, with_answers, with_given, from_no_enter}
-use Rattle.source_meaning.specs.Effects.{Effect, Looks, Goes, Leave, Begins, Asks, Returns, Ends, Faults}
+use Rattle.source_meaning.specs.Deeds.{Deed, deed_of, IsBranch, GoesOn, to_next, with_value}
+use Rattle.source_meaning.specs.Deeds.{to_label, to_branch, to_loop, to_turn, with_found}
+use Rattle.source_meaning.specs.Deeds.{with_seized, with_answers, with_given, from_no_enter}
+use Rattle.source_meaning.specs.Effects.{Effect, Looks, Goes, Leave, Begins, Asks, Returns, Ends}
+use Rattle.source_meaning.specs.Effects.{Faults}
 use Rattle.source_meaning.specs.Job.{todo_of, place_of, begins, after_steps}
-use Rattle.source_meaning.specs.Rests.{point_of, point_of_first, Past, here, beyond, first_point, head_point, IsRow, whole, later, branch, turn, StandsInText, IsRest, AreRests, DeedStands}
+use Rattle.source_meaning.specs.Rests.{point_of, point_of_first, Past, here, beyond, first_point}
+use Rattle.source_meaning.specs.Rests.{head_point, IsRow, whole, later, branch, turn, StandsInText}
+use Rattle.source_meaning.specs.Rests.{IsRest, AreRests, DeedStands}
 use Rattle.source_meaning.proofs.Keeping.{Kept, steps_keep}
 
 pub cons_head : (i j : Item) (is js : List Item) → i ∷ is ≡ j ∷ js → i ≡ j
@@ -35,7 +44,8 @@ stands_next h = ap head_point h.is ∙ head_text h.list h.more ∙ ap (first_poi
 
 module _ (x : Exchange) (b : ℕ) where
   -- a row before what is next after it
-  pub row_rest : (list : List Stmt) (end : Option ℕ) (rest : List Item) → IsRow x b list end → head_point rest ≡ end → IsRest x b rest → IsRest x b (map Do list ++ rest)
+  pub row_rest : (list : List Stmt) (end : Option ℕ) (rest : List Item) → IsRow x b list end → head_point rest ≡ end
+      → IsRest x b rest → IsRest x b (map Do list ++ rest)
   row_rest [] end rest row is after = after
   row_rest (s ∷ list) end rest row is after =
       (record { list = list; end = end; more = rest; row = row; is = refl; ends = is }, row_rest list end rest (later s list end row) is after)
@@ -49,7 +59,9 @@ module _ (x : Exchange) (b : ℕ) where
   rows_drop (suc n) (s ∷ list) end row = rows_drop n list end (later s list end row)
 
   -- the text of a block from a place on
-  text_found : (n : ℕ) (found : Option Block) → slice_get x.blocks b ≡ found → IsRow x b (drop n (option_map_or (λ (k : Block). k.body) found [])) None ⊎ (drop n (option_map_or (λ (k : Block). k.body) found []) ≡ [])
+  text_found : (n : ℕ) (found : Option Block) → slice_get x.blocks b ≡ found
+      → IsRow x b (drop n (option_map_or (λ (k : Block). k.body) found [])) None
+      ⊎ (drop n (option_map_or (λ (k : Block). k.body) found []) ≡ [])
   text_found n None none = inr (drop-nil n)
   text_found n (Some k) there = inl (rows_drop n k.body None (whole k there))
 
@@ -72,7 +84,8 @@ module _ (x : Exchange) (b : ℕ) where
 
   pub signal_rest : (signal : ℕ) → IsRest x b (from_signal x b signal)
   signal_rest signal =
-      ⊎_elim (λ row. start_rest (drop (enter_place x b signal) (body_of x b)) row) (λ none. subst (λ l. IsRest x b (starting l)) (sym none) tt) (text_from (enter_place x b signal))
+      ⊎_elim (λ row. start_rest (drop (enter_place x b signal) (body_of x b)) row)
+      (λ none. subst (λ l. IsRest x b (starting l)) (sym none) tt) (text_from (enter_place x b signal))
 
   -- what is counted next
   counted_rest : (todo : List Item) → IsRest x b todo → IsRest x b (next_counted todo)
@@ -110,7 +123,8 @@ module _ (x : Exchange) (b : ℕ) where
   turn_left (Start s ∷ more) i rest is = subst IsLeft (cons_head (Start s) i more rest is) tt
   turn_left (Turns p temp this end body ∷ more) i rest is = by (nat_lt end this) refl is (turn_left more i rest)
     where
-      by : (e : Bool) → nat_lt end this ≡ e → (if e then next_counted more else Turns p temp this end body ∷ more) ≡ i ∷ rest → (next_counted more ≡ i ∷ rest → IsLeft i) → IsLeft i
+      by : (e : Bool) → nat_lt end this ≡ e → (if e then next_counted more else Turns p temp this end body ∷ more) ≡ i
+          ∷ rest → (next_counted more ≡ i ∷ rest → IsLeft i) → IsLeft i
       by true lt same past = past same
       by false lt same past = subst IsLeft (cons_head (Turns p temp this end body) i more rest same) (ltb-false end this lt)
 
@@ -128,25 +142,30 @@ module _ (x : Exchange) (b : ℕ) where
   point_past [] h = here None
   point_past (Do s ∷ rest) h = by (is_enter (out-StmtKind s.kind)) (point_past rest h.1)
     where
-      by : (e : Bool) → Past x b (head_point rest) (point_of rest) → Past x b (if e then head_point rest else Some s.point) (point_of_first (if e then next_counted rest else Do s ∷ rest))
+      by : (e : Bool) → Past x b (head_point rest) (point_of rest)
+          → Past x b (if e then head_point rest else Some s.point)
+          (point_of_first (if e then next_counted rest else Do s ∷ rest))
       by true past = past
       by false past = here (Some s.point)
   point_past (Start s ∷ rest) h = here (Some s.point)
   point_past (Turns p temp this end body ∷ rest) h = by (nat_lt end this) (point_past rest h.1)
     where
-      by : (e : Bool) → Past x b (head_point rest) (point_of rest) → Past x b (Some p) (point_of_first (if e then next_counted rest else Turns p temp this end body ∷ rest))
+      by : (e : Bool) → Past x b (head_point rest) (point_of rest)
+          → Past x b (Some p) (point_of_first (if e then next_counted rest else Turns p temp this end body ∷ rest))
       by true past = beyond p temp body rest (point_of rest) h.0 past
       by false past = here (Some p)
 
 -- where a job goes on
-goes_rest : (x : Exchange) (rest : List Item) (c : Config) (deed : Deed) (todo : List Item) (temps : List ℕ) → DeedRest x c.block deed rest → GoesOn x rest c deed todo temps → IsRest x c.block todo
+goes_rest : (x : Exchange) (rest : List Item) (c : Config) (deed : Deed) (todo : List Item) (temps : List ℕ)
+    → DeedRest x c.block deed rest → GoesOn x rest c deed todo temps → IsRest x c.block todo
 goes_rest x rest c deed todo temps d (to_next p may) = d.1
 goes_rest x rest c deed todo temps d (with_value p temp e v is) = d.1
 goes_rest x rest c deed todo temps d (to_label p label is) = place_rest x c.block (label_of x c.block label)
 goes_rest x rest c deed todo temps d (to_branch p body is) =
     let s = d.0 in
     let h = s.stands in
-    row_rest x c.block body (first_point h.list h.end) rest (branch s.stmt h.list h.end body h.row (subst (λ l. IsBranch l body) (sym s.is) is)) (stands_next h) d.1
+    row_rest x c.block body (first_point h.list h.end) rest
+    (branch s.stmt h.list h.end body h.row (subst (λ l. IsBranch l body) (sym s.is) is)) (stands_next h) d.1
 goes_rest x rest c deed todo temps d (to_loop p temp from upto body a b first last) =
     let s = d.0 in
     (record { stmt = s.stmt; point = s.point; from = from; upto = upto; is = s.is; stands = s.stands }, d.1)
@@ -161,16 +180,19 @@ goes_rest x rest c deed todo temps d (with_answers p answer ts) = d.1
 goes_rest x rest c deed todo temps d (with_given p signal ts) = d.1
 goes_rest x rest c deed todo temps d (from_no_enter p other) = d.1
 
-effect_rests : (x : Exchange) (deed : Deed) (rest : List Item) (c d : Config) → DeedRest x c.block deed rest → AreRests x c → Effect x deed rest c d → AreRests x d
+effect_rests : (x : Exchange) (deed : Deed) (rest : List Item) (c d : Config) → DeedRest x c.block deed rest
+    → AreRests x c → Effect x deed rest c d → AreRests x d
 effect_rests x deed rest c d at h (Goes e todo temps on) = record { here = goes_rest x rest c deed todo temps at on; callers = h.callers }
 effect_rests x deed rest c d at h (Looks e loads each) = record { here = h.here; callers = h.callers }
 effect_rests x deed rest c d at h _ = record { here = h.here; callers = h.callers }
 
-leave_rests : (x : Exchange) (deed : Deed) (rest : List Item) (c d : Config) → DeedRest x c.block deed rest → AreRests x c → Leave x deed rest c d → AreRests x d
+leave_rests : (x : Exchange) (deed : Deed) (rest : List Item) (c d : Config) → DeedRest x c.block deed rest
+    → AreRests x c → Leave x deed rest c d → AreRests x d
 leave_rests x deed rest c d at h (Begins e b signal vs is) = record { here = signal_rest x b signal; callers = h.callers }
 leave_rests x deed rest c d at h (Asks e b signal answer vs is room) = record { here = signal_rest x b signal; callers = (at.1, h.callers) }
 leave_rests x deed rest c d at h (Returns e p answer values vs k ks is given some same) =
-    let waiting : AllByRecursion (λ (k : Caller). IsRest x k.block k.todo) (k ∷ ks) = subst (AllByRecursion (λ (k : Caller). IsRest x k.block k.todo)) some h.callers in
+    let waiting : AllByRecursion (λ (k : Caller). IsRest x k.block k.todo) (k ∷ ks) =
+    subst (AllByRecursion (λ (k : Caller). IsRest x k.block k.todo)) some h.callers in
     record { here = waiting.0; callers = waiting.1 }
 leave_rests x deed rest c d at h (Ends e p l is end none) = record { here = h.here; callers = h.callers }
 leave_rests x deed rest c d at h (Faults e f why) = record { here = h.here; callers = h.callers }

@@ -1,5 +1,6 @@
 -- A job that begins in a valid state leaves one when it retires.
-use Rattle.std.proofs.Common.{◌≡◌, ⊎_elim, ℕ, zero, suc, ◌+◌, Bool, true, false, List, [], ◌∷◌, length, Option, Some, None, refl, sym, ap, ◌∙◌, subst, arith}
+use Rattle.std.proofs.Common.{◌≡◌, ⊎_elim, ℕ, zero, suc, ◌+◌, Bool, true, false, List, [], ◌∷◌}
+use Rattle.std.proofs.Common.{length, Option, Some, None, refl, sym, ap, ◌∙◌, subst, arith}
 use Rattle.std.proofs.lemmas.Bool.{cases_eq}
 use Rattle.std.proofs.lemmas.Option.{same_Some}
 use Rattle.std.specs.Prelude.{◌≢◌, if◌then◌else◌}
@@ -24,7 +25,8 @@ use Rattle.source_meaning.specs.Retirement.{all_delivered, keeps_chain, with_out
 use Rattle.source_meaning.specs.SingleRun.{start_of, next_start, begun, ended_as, turn, after}
 use Rattle.source_meaning.specs.Arrivals.{arrivals}
 use Rattle.source_meaning.specs.State.{State, chain_in, has_stopped}
-use Rattle.source_meaning.specs.Valid.{HasRecords, IsLive, MayBe, StoreFits, WaitsAt, IsJob, IsFitting, IsValid}
+use Rattle.source_meaning.specs.Valid.{HasRecords, IsLive, MayBe, StoreFits, WaitsAt, IsJob}
+use Rattle.source_meaning.specs.Valid.{IsFitting, IsValid}
 use Rattle.source_meaning.proofs.Books.{Books}
 use Rattle.source_meaning.proofs.Freeing.{put_chain, put_same, put_other}
 use Rattle.source_meaning.proofs.Holding.{HoldsOn, all_kept}
@@ -32,7 +34,9 @@ use Rattle.source_meaning.proofs.Keeping.{steps_keep}
 use Rattle.source_meaning.proofs.Ranged.{start_ranges}
 use Rattle.source_meaning.proofs.Releasing.{releases_valid, anew_valid}
 use Rattle.source_meaning.proofs.Rests.{start_rests}
-use Rattle.source_meaning.proofs.States.{chains_of, marks_of, books_of, books_as, IsLater, live_later, may_later, live_of, Orderly, orderly_of, valid_of, Lists, lists_of, lists_later, waiting_of}
+use Rattle.source_meaning.proofs.States.{chains_of, marks_of, books_of, books_as, IsLater}
+use Rattle.source_meaning.proofs.States.{live_later, may_later, live_of, Orderly, orderly_of}
+use Rattle.source_meaning.proofs.States.{valid_of, Lists, lists_of, lists_later, waiting_of}
 use Rattle.source_meaning.proofs.Delivering.{IsDelivered, sends_orderly}
 use Rattle.source_meaning.proofs.Arriving.{arrivals_valid}
 use Rattle.job_types.proofs.ChainMaps.{chain_same, chain_other}
@@ -55,7 +59,8 @@ module _ (x : Exchange) (kept : IsExchange x) (s : State) (v : IsValid x s) (sta
 
   own_chain : (n : ℕ) → put_chain (chain_at s.chains) f start.chain n ≡ chain_at s.chains n
   own_chain n = ⊎_elim
-      (λ same. ap (put_chain (chain_at s.chains) f start.chain) same ∙ put_same (chain_at s.chains) f start.chain ∙ fits.chain ∙ chain_is f ∙ ap (chain_at s.chains) (sym same))
+      (λ same. ap (put_chain (chain_at s.chains) f start.chain) same ∙ put_same (chain_at s.chains) f start.chain
+      ∙ fits.chain ∙ chain_is f ∙ ap (chain_at s.chains) (sym same))
       (λ other. put_other (chain_at s.chains) f start.chain n other) (cases_eq n f)
 
   alive : f ≢ 0 → IsLive s f
@@ -75,7 +80,8 @@ module _ (x : Exchange) (kept : IsExchange x) (s : State) (v : IsValid x s) (sta
 
   steps_so : (n : ℕ) → IsEnd (after_steps n x (begins x start s.store))
   steps_so n =
-      let all = steps_keep (all_kept x kept (IsLive s) (chain_at s.chains) f alive) n (begins x start s.store) ((start_rests x start s.store, start_ranges x kept start s.store fits.job v.store), start_holds) in
+      let all = steps_keep (all_kept x kept (IsLive s) (chain_at s.chains) f alive) n (begins x start s.store)
+      ((start_rests x start s.store, start_ranges x kept start s.store fits.job v.store), start_holds) in
       record { range = all.0.1; holds = all.1 }
 
   pub job_ends_so : IsEnd (job x start s.store)
@@ -83,17 +89,24 @@ module _ (x : Exchange) (kept : IsExchange x) (s : State) (v : IsValid x s) (sta
   job_ends_so = steps_so (budget + 1)
 
   -- while it runs: its own chain is its forlopp's
-  running_books : (c : Config) → HoldsOn x (IsLive s) (chain_at s.chains) f c → (n : ℕ) → n ≡ f → Books x (IsLive (running n s c)) (chain_at (running n s c).chains) (running n s c).store
+  running_books : (c : Config) → HoldsOn x (IsLive s) (chain_at s.chains) f c → (n : ℕ) → n ≡ f
+      → Books x (IsLive (running n s c)) (chain_at (running n s c).chains) (running n s c).store
   running_books c h zero is =
       let none : f ≡ 0 = sym is in
       books_as {Still = IsLive (running zero s c)} (λ n. ⊎_elim
-      (λ same. ap (chain_at s.chains) (same ∙ none) ∙ none_at_0 ∙ sym (h.bare none) ∙ sym (put_same (chain_at s.chains) f c.own.chain) ∙ ap (put_chain (chain_at s.chains) f c.own.chain) (sym same))
-      (λ other. sym (put_other (chain_at s.chains) f c.own.chain n other)) (cases_eq n f)) (λ n live. live_later (record { next = omega arith; dead = λ k alive. alive }) n live) h.books
+      (λ same. ap (chain_at s.chains) (same ∙ none) ∙ none_at_0 ∙ sym (h.bare none)
+      ∙ sym (put_same (chain_at s.chains) f c.own.chain)
+      ∙ ap (put_chain (chain_at s.chains) f c.own.chain) (sym same))
+      (λ other. sym (put_other (chain_at s.chains) f c.own.chain n other)) (cases_eq n f))
+      (λ n live. live_later (record { next = omega arith; dead = λ k alive. alive }) n live) h.books
   running_books c h (suc n) is =
       let u = running (suc n) s c in
       books_as {Still = IsLive u} (λ k. ⊎_elim
-      (λ same. ap (λ j. chain_at u.chains j) (same ∙ sym is) ∙ chain_same s.chains (suc n) c.own.chain ∙ sym (put_same (chain_at s.chains) f c.own.chain) ∙ ap (put_chain (chain_at s.chains) f c.own.chain) (sym same))
-      (λ other. chain_other s.chains (suc n) k c.own.chain (λ same. other (same ∙ is)) ∙ sym (put_other (chain_at s.chains) f c.own.chain k other)) (cases_eq k f))
+      (λ same. ap (λ j. chain_at u.chains j) (same ∙ sym is) ∙ chain_same s.chains (suc n) c.own.chain
+      ∙ sym (put_same (chain_at s.chains) f c.own.chain)
+      ∙ ap (put_chain (chain_at s.chains) f c.own.chain) (sym same))
+      (λ other. chain_other s.chains (suc n) k c.own.chain (λ same. other (same ∙ is))
+      ∙ sym (put_other (chain_at s.chains) f c.own.chain k other)) (cases_eq k f))
       (λ k live. live_later (record { next = omega arith; dead = λ j alive. alive }) k live) h.books
 
   pub running_fits : (n : ℕ) → RunningFits x (running f s (after_steps n x (begins x start s.store)))
@@ -138,12 +151,16 @@ module _ (x : Exchange) (kept : IsExchange x) (s : State) (v : IsValid x s) (sta
         let none : f ≡ 0 = sym is in
         let chains : (n : ℕ) → chain_at t.chains n ≡ put_chain (chain_at s.chains) f end.own.chain n = λ n.
         ap (λ m. chain_at m n) d.chains
-        ∙ ⊎_elim (λ same. ap (chain_at s.chains) (same ∙ none) ∙ none_at_0 ∙ sym (e.holds.bare none) ∙ sym (put_same (chain_at s.chains) f end.own.chain) ∙ ap (put_chain (chain_at s.chains) f end.own.chain) (sym same))
+        ∙ ⊎_elim (λ same. ap (chain_at s.chains) (same ∙ none) ∙ none_at_0 ∙ sym (e.holds.bare none)
+        ∙ sym (put_same (chain_at s.chains) f end.own.chain)
+        ∙ ap (put_chain (chain_at s.chains) f end.own.chain) (sym same))
         (λ other. sym (put_other (chain_at s.chains) f end.own.chain n other)) (cases_eq n f) in
         record {
           later = record { next = d.later.next; dead = d.later.dead };
           store = subst (StoreFits x) (sym d.store) e.range.store;
-          books = subst (Books x (IsLive t) (chain_at t.chains)) (sym d.store) (books_as {Still = IsLive t} chains (λ n h. live_later (record { next = d.later.next; dead = d.later.dead }) n h) e.holds.books);
+          books = subst (Books x (IsLive t) (chain_at t.chains)) (sym d.store)
+              (books_as {Still = IsLive t} chains
+              (λ n h. live_later (record { next = d.later.next; dead = d.later.dead }) n h) e.holds.books);
           orderly = delivered_so.0;
         }
     kept_so (suc n) is =
@@ -153,8 +170,12 @@ module _ (x : Exchange) (kept : IsExchange x) (s : State) (v : IsValid x s) (sta
         let o = delivered_so.0 in
         let later : IsLater s u = record { next = d.later.next; dead = d.later.dead } in
         let chains : (k : ℕ) → chain_at u.chains k ≡ put_chain (chain_at s.chains) f end.own.chain k = λ k. ⊎_elim
-        (λ same. ap (λ j. chain_at u.chains j) (same ∙ sym is) ∙ chain_same t.chains (suc n) end.own.chain ∙ sym (put_same (chain_at s.chains) f end.own.chain) ∙ ap (put_chain (chain_at s.chains) f end.own.chain) (sym same))
-        (λ other. chain_other t.chains (suc n) k end.own.chain (λ same. other (same ∙ is)) ∙ ap (λ m. chain_at m k) d.chains ∙ sym (put_other (chain_at s.chains) f end.own.chain k other)) (cases_eq k f) in
+        (λ same. ap (λ j. chain_at u.chains j) (same ∙ sym is) ∙ chain_same t.chains (suc n) end.own.chain
+        ∙ sym (put_same (chain_at s.chains) f end.own.chain)
+        ∙ ap (put_chain (chain_at s.chains) f end.own.chain) (sym same))
+        (λ other. chain_other t.chains (suc n) k end.own.chain (λ same. other (same ∙ is))
+        ∙ ap (λ m. chain_at m k) d.chains ∙ sym (put_other (chain_at s.chains) f end.own.chain k other))
+        (cases_eq k f) in
         record {
           later = later;
           store = subst (StoreFits x) (sym d.store) e.range.store;
@@ -183,7 +204,9 @@ module _ (x : Exchange) (kept : IsExchange x) (s : State) (v : IsValid x s) (sta
     over_fits (Some (Faulted g point)) h = h
 
     end_valid : IsValid x (ended_as x start end s)
-    end_valid = outcome_valid (outcome_of end.over) f (keeps_chain f end.own.chain (all_delivered f end.own.sends counted_ended)) refl (over_fits end.over e.range.over) (kept_so f refl)
+    end_valid = outcome_valid (outcome_of end.over) f
+        (keeps_chain f end.own.chain (all_delivered f end.own.sends counted_ended)) refl
+        (over_fits end.over e.range.over) (kept_so f refl)
 
   -- the state after the job
   pub retires_valid : IsValid x (ended_as x start (job x start s.store) s)
@@ -191,11 +214,16 @@ module _ (x : Exchange) (kept : IsExchange x) (s : State) (v : IsValid x s) (sta
 
 -- the next job
 
-rest_waits : (x : Exchange) (s t : State) (a b c d : List Job) → IsLater s t → AllByRecursion (WaitsAt x s A) a → AllByRecursion (WaitsAt x s B) b → AllByRecursion (WaitsAt x s C) c → AllByRecursion (WaitsAt x s D) d → Lists x t (rest_of a b c d)
+rest_waits : (x : Exchange) (s t : State) (a b c d : List Job) → IsLater s t → AllByRecursion (WaitsAt x s A) a
+    → AllByRecursion (WaitsAt x s B) b → AllByRecursion (WaitsAt x s C) c → AllByRecursion (WaitsAt x s D) d
+    → Lists x t (rest_of a b c d)
 rest_waits x s t (j ∷ a) b c d later fa fb fc fd = lists_later x s t (record { a = a; b = b; c = c; d = d }) later (record { a = fa.1; b = fb; c = fc; d = fd })
-rest_waits x s t [] (j ∷ b) c d later fa fb fc fd = lists_later x s t (record { a = []; b = b; c = c; d = d }) later (record { a = tt; b = fb.1; c = fc; d = fd })
-rest_waits x s t [] [] (j ∷ c) d later fa fb fc fd = lists_later x s t (record { a = []; b = []; c = c; d = d }) later (record { a = tt; b = tt; c = fc.1; d = fd })
-rest_waits x s t [] [] [] (j ∷ d) later fa fb fc fd = lists_later x s t (record { a = []; b = []; c = []; d = d }) later (record { a = tt; b = tt; c = tt; d = fd.1 })
+rest_waits x s t [] (j ∷ b) c d later fa fb fc fd = lists_later x s t (record { a = []; b = b; c = c; d = d }) later
+    (record { a = tt; b = fb.1; c = fc; d = fd })
+rest_waits x s t [] [] (j ∷ c) d later fa fb fc fd = lists_later x s t (record { a = []; b = []; c = c; d = d }) later
+    (record { a = tt; b = tt; c = fc.1; d = fd })
+rest_waits x s t [] [] [] (j ∷ d) later fa fb fc fd = lists_later x s t (record { a = []; b = []; c = []; d = d }) later
+    (record { a = tt; b = tt; c = tt; d = fd.1 })
 rest_waits x s t [] [] [] [] later fa fb fc fd = record { a = tt; b = tt; c = tt; d = tt }
 
 -- a job that may begin
@@ -203,7 +231,9 @@ record MayBegin (x : Exchange) (s : State) (j : Job) : Type 0 where
   job : IsJob x j
   forlopp : MayBe s j.forlopp
 
-picked_waits : (x : Exchange) (s : State) (a b c d : List Job) (j : Job) → first_of a b c d ≡ Some j → AllByRecursion (WaitsAt x s A) a → AllByRecursion (WaitsAt x s B) b → AllByRecursion (WaitsAt x s C) c → AllByRecursion (WaitsAt x s D) d → MayBegin x s j
+picked_waits : (x : Exchange) (s : State) (a b c d : List Job) (j : Job) → first_of a b c d ≡ Some j
+    → AllByRecursion (WaitsAt x s A) a → AllByRecursion (WaitsAt x s B) b → AllByRecursion (WaitsAt x s C) c
+    → AllByRecursion (WaitsAt x s D) d → MayBegin x s j
 picked_waits x s (k ∷ a) b c d j is fa fb fc fd = subst (MayBegin x s) (same_Some k j is) (record { job = fa.0.job; forlopp = fa.0.forlopp })
 picked_waits x s [] (k ∷ b) c d j is fa fb fc fd = subst (MayBegin x s) (same_Some k j is) (record { job = fb.0.job; forlopp = fb.0.forlopp })
 picked_waits x s [] [] (k ∷ c) d j is fa fb fc fd = subst (MayBegin x s) (same_Some k j is) (record { job = fc.0.job; forlopp = fc.0.forlopp })
@@ -217,7 +247,8 @@ pub begun_valid : (x : Exchange) (s : State) → IsValid x s → IsValid x (begu
 begun_valid x s v =
     let o = orderly_of x s v in
     valid_of x (begun s) 0 v.store (books_as {Still = IsLive (begun s)} (λ n. refl) (λ n h. live_later (begun_later s) n h) (books_of x s v)) (record {
-      waiting = waiting_of x (begun s) (rest_waits x s (begun s) s.waiting.a s.waiting.b s.waiting.c s.waiting.d (begun_later s) v.waiting.a v.waiting.b v.waiting.c v.waiting.d);
+      waiting = waiting_of x (begun s) (rest_waits x s (begun s) s.waiting.a s.waiting.b s.waiting.c s.waiting.d
+          (begun_later s) v.waiting.a v.waiting.b v.waiting.c v.waiting.d);
       some = o.some;
       dead = o.dead;
       few = o.few;
@@ -250,9 +281,11 @@ fits_begun x s start h = record { job = h.job; forlopp = may_later (begun_later 
 pub turn_valid : (x : Exchange) → IsExchange x → (s : State) → IsValid x s → IsValid x (turn x s)
 turn_valid x kept s v = by (next_start s) refl
   where
-    by : (found : Option JobStart) → next_start s ≡ found → IsValid x (option_map_or (λ start. arrivals x (ended_as x start (job x start s.store) (begun s))) found s)
+    by : (found : Option JobStart) → next_start s ≡ found
+        → IsValid x (option_map_or (λ start. arrivals x (ended_as x start (job x start s.store) (begun s))) found s)
     by None is = v
-    by (Some start) is = arrivals_valid x (ended_as x start (job x start s.store) (begun s)) (retires_valid x kept (begun s) (begun_valid x s v) start (fits_begun x s start (start_fits x s start v is)))
+    by (Some start) is = arrivals_valid x (ended_as x start (job x start s.store) (begun s))
+        (retires_valid x kept (begun s) (begun_valid x s v) start (fits_begun x s start (start_fits x s start v is)))
 
 pub after_valid : (x : Exchange) → IsExchange x → (s : State) (n : ℕ) → IsValid x s → IsValid x (after x s n)
 unfolding after

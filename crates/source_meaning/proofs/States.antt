@@ -1,5 +1,6 @@
 -- A valid state in two parts: its chains, marks and store, and all else, which they do not touch.
-use Rattle.std.proofs.Common.{◌≡◌, ℕ, zero, suc, ◌+◌, ◌*◌, ◌<◌, ◌≤◌, true, false, List, [], ◌∷◌, ◌++◌, map, length, refl, sym, ap, subst, arith}
+use Rattle.std.proofs.Common.{◌≡◌, ℕ, zero, suc, ◌+◌, ◌*◌, ◌<◌, ◌≤◌, true, false, List, [], ◌∷◌}
+use Rattle.std.proofs.Common.{◌++◌, map, length, refl, sym, ap, subst, arith}
 use mathlib.Core.Path.{fun_ext}
 use Rattle.std.specs.Prelude.{◌≢◌}
 use Rattle.std.specs.List.{AllByRecursion}
@@ -12,7 +13,9 @@ use Rattle.job_types.specs.Forlopps.{chain_at, is_dead}
 use Rattle.job_types.specs.Waiting.{Waiting, joins, last_at}
 use Rattle.exchange_model.specs.declared.exchange.Exchange.{Exchange}
 use Rattle.source_meaning.specs.State.{State, Arrived}
-use Rattle.source_meaning.specs.Valid.{HasRecords, IsLive, MayBe, ChainsFit, MarksFit, StoreFits, IsJob, WaitsAt, WaitingFits, IsPastNumber, LinesFit, EventFits, IsValid}
+use Rattle.source_meaning.specs.Valid.{HasRecords, IsLive, MayBe, ChainsFit, MarksFit, StoreFits}
+use Rattle.source_meaning.specs.Valid.{IsJob, WaitsAt, WaitingFits, IsPastNumber, LinesFit}
+use Rattle.source_meaning.specs.Valid.{EventFits, IsValid}
 use Rattle.source_meaning.proofs.Books.{Books}
 use Rattle.plex_num.proofs.Lists.{all_append, all_weaker}
 
@@ -36,7 +39,9 @@ pub marks_of : (x : Exchange) (s : State) → Books x (IsLive s) (chain_at s.cha
 marks_of x s b = record { held = λ n h p there one. b.held n h.file h.number p there one; free = b.free }
 
 -- the same books of the same chains, for numbers that live still where they hold records
-pub books_still : {x : Exchange} {Live Still : ℕ → Type 0} {ch now : ℕ → List Held} {store : List ℕ} → ((n : ℕ) → now n ≡ ch n) → ((n : ℕ) → HasRecords (ch n) → Live n → Still n) → Books x Live ch store → Books x Still now store
+pub books_still : {x : Exchange} {Live Still : ℕ → Type 0} {ch now : ℕ → List Held} {store : List ℕ}
+    → ((n : ℕ) → now n ≡ ch n) → ((n : ℕ) → HasRecords (ch n) → Live n → Still n) → Books x Live ch store
+    → Books x Still now store
 books_still {x} {Live} {Still} {ch} {now} {store} same still b = subst (λ c. Books x Still c store) (fun_ext (λ n. sym (same n))) (record {
   few = b.few;
   records = b.records;
@@ -47,7 +52,8 @@ books_still {x} {Live} {Still} {ch} {now} {store} same still b = subst (λ c. Bo
   free = b.free;
 })
 
-pub books_as : {x : Exchange} {Live Still : ℕ → Type 0} {ch now : ℕ → List Held} {store : List ℕ} → ((n : ℕ) → now n ≡ ch n) → ((n : ℕ) → Live n → Still n) → Books x Live ch store → Books x Still now store
+pub books_as : {x : Exchange} {Live Still : ℕ → Type 0} {ch now : ℕ → List Held} {store : List ℕ}
+    → ((n : ℕ) → now n ≡ ch n) → ((n : ℕ) → Live n → Still n) → Books x Live ch store → Books x Still now store
 books_as same still b = books_still same (λ n some live. still n live) b
 
 -- a later state: as many numbers are drawn, and no more are dead
@@ -104,10 +110,14 @@ waits_later x s t level j later h = record { job = h.job; here = h.here; forlopp
 -- the same jobs wait in a later state
 pub waiting_later : (x : Exchange) (s t : State) → IsLater s t → t.waiting ≡ s.waiting → WaitingFits x s → WaitingFits x t
 waiting_later x s t later same h = record {
-  a = subst (AllByRecursion (WaitsAt x t A)) (sym (ap (λ (w : Waiting). w.a) same)) (all_weaker (WaitsAt x s A) (WaitsAt x t A) s.waiting.a (λ j. waits_later x s t A j later) h.a);
-  b = subst (AllByRecursion (WaitsAt x t B)) (sym (ap (λ (w : Waiting). w.b) same)) (all_weaker (WaitsAt x s B) (WaitsAt x t B) s.waiting.b (λ j. waits_later x s t B j later) h.b);
-  c = subst (AllByRecursion (WaitsAt x t C)) (sym (ap (λ (w : Waiting). w.c) same)) (all_weaker (WaitsAt x s C) (WaitsAt x t C) s.waiting.c (λ j. waits_later x s t C j later) h.c);
-  d = subst (AllByRecursion (WaitsAt x t D)) (sym (ap (λ (w : Waiting). w.d) same)) (all_weaker (WaitsAt x s D) (WaitsAt x t D) s.waiting.d (λ j. waits_later x s t D j later) h.d);
+  a = subst (AllByRecursion (WaitsAt x t A)) (sym (ap (λ (w : Waiting). w.a) same))
+      (all_weaker (WaitsAt x s A) (WaitsAt x t A) s.waiting.a (λ j. waits_later x s t A j later) h.a);
+  b = subst (AllByRecursion (WaitsAt x t B)) (sym (ap (λ (w : Waiting). w.b) same))
+      (all_weaker (WaitsAt x s B) (WaitsAt x t B) s.waiting.b (λ j. waits_later x s t B j later) h.b);
+  c = subst (AllByRecursion (WaitsAt x t C)) (sym (ap (λ (w : Waiting). w.c) same))
+      (all_weaker (WaitsAt x s C) (WaitsAt x t C) s.waiting.c (λ j. waits_later x s t C j later) h.c);
+  d = subst (AllByRecursion (WaitsAt x t D)) (sym (ap (λ (w : Waiting). w.d) same))
+      (all_weaker (WaitsAt x s D) (WaitsAt x t D) s.waiting.d (λ j. waits_later x s t D j later) h.d);
 }
 
 -- four lists of jobs, as a state has them

@@ -1,5 +1,6 @@
 -- What every statement does is a list of effects, and a step is one step of those.
-use Rattle.std.proofs.Common.{◌≡◌, ℕ, ◌+◌, Bool, true, false, List, [], ◌∷◌, ◌++◌, map, refl, slice_get}
+use Rattle.std.proofs.Common.{◌≡◌, ℕ, ◌+◌, Bool, true, false, List, [], ◌∷◌, ◌++◌, map, refl}
+use Rattle.std.proofs.Common.{slice_get}
 use Rattle.std.specs.Prelude.{nat_lt, if◌then◌else◌}
 use Rattle.job_types.specs.declared.fault.Fault.TheVariants as fault
 use Rattle.job_types.specs.Own.{counted, budget}
@@ -10,11 +11,16 @@ use Rattle.source_meaning.specs.Named.{Layer}
 use Rattle.source_meaning.specs.Config.{Item, Do, Start, Turns, next_counted, Config, files_of}
 use Rattle.source_meaning.specs.Changes.{fails, goes, sets_temp, takes}
 use Rattle.source_meaning.specs.Step.{does, starts, count, does_first, step}
-use Rattle.source_meaning.specs.Deeds.{Doing, Starting, Turning, deed_of, deed_point, IsNoEnter, to_turn, to_label as at_label, to_next, with_answers, with_given, from_no_enter}
+use Rattle.source_meaning.specs.Deeds.{Doing, Starting, Turning, deed_of, deed_point, IsNoEnter}
+use Rattle.source_meaning.specs.Deeds.{to_turn, to_label as at_label, to_next, with_answers}
+use Rattle.source_meaning.specs.Deeds.{with_given, from_no_enter}
 use Rattle.source_meaning.specs.Effects.{Step, NothingLeft, CountFull, Counts, Goes}
 use Rattle.source_meaning.proofs.Doing.{Makes, one, next, jump}
-use Rattle.source_meaning.proofs.DoingData.{set_temp, set_variable, set_field, free, for_first_effects, seize_found}
-use Rattle.source_meaning.proofs.DoingText.{if_goto, if_effects, case_effects, on_effects, end_effects, send_effects, transfer_effects, return_effects}
+use Rattle.source_meaning.proofs.DoingData.{set_temp, set_variable, set_field, free}
+use Rattle.source_meaning.proofs.DoingData.{for_first_effects, seize_found}
+use Rattle.source_meaning.proofs.DoingText.{if_goto, if_effects, case_effects, on_effects}
+use Rattle.source_meaning.proofs.DoingText.{end_effects, send_effects, transfer_effects}
+use Rattle.source_meaning.proofs.DoingText.{return_effects}
 
 pub does_effects : (x : Exchange) (rest : List Item) (p : ℕ) (l : Layer) (c : Config) → Makes x (Doing p l) rest c (does x p l rest c)
 does_effects x rest p (stmt.Enter signal temps) c = next x p (stmt.Enter signal temps) rest c (to_next p tt)

@@ -1,5 +1,6 @@
 -- A job touches cells of its exchange alone.
-use Rattle.std.proofs.Common.{◌≡◌, ℕ, suc, ◌+◌, ◌<◌, Bool, true, false, List, [], ◌∷◌, ◌++◌, length, Option, Some, None, refl, sym, ap, ◌∙◌, subst, slice_get, arith}
+use Rattle.std.proofs.Common.{◌≡◌, ℕ, suc, ◌+◌, ◌<◌, Bool, true, false, List, [], ◌∷◌, ◌++◌, length}
+use Rattle.std.proofs.Common.{Option, Some, None, refl, sym, ap, ◌∙◌, subst, slice_get, arith}
 use Rattle.std.proofs.lemmas.Bool.{ltb-true}
 use Rattle.std.proofs.lemmas.Option.{same_Some, slice_get_within}
 use Rattle.std.specs.Prelude.{nat_lt, slice_index, if◌then◌else◌}
@@ -15,14 +16,16 @@ use Rattle.exchange_model.specs.declared.block.Block.{Block}
 use Rattle.exchange_model.specs.declared.block.Variable.{Variable}
 use Rattle.exchange_model.specs.declared.expr.Expr.{Expr}
 use Rattle.exchange_model.specs.declared.signal.SignalKind.{SignalKind}
-use Rattle.exchange_model.specs.declared.signal.SignalKind.TheVariants.{Buffered, Direct, Combined, Answer, Outside}
+use Rattle.exchange_model.specs.declared.signal.SignalKind.TheVariants.{Buffered, Direct, Combined}
+use Rattle.exchange_model.specs.declared.signal.SignalKind.TheVariants.{Answer, Outside}
 use Rattle.exchange_model.specs.declared.stmt.Holder.{Holder}
 use Rattle.exchange_model.specs.declared.stmt.Holder.TheVariants as holder
 use Rattle.exchange_model.specs.declared.stmt.Receiver.{Receiver}
 use Rattle.exchange_model.specs.declared.stmt.Receiver.TheVariants as receiver
 use Rattle.exchange_model.specs.declared.stmt.StmtKind.TheOpen as stmt
 use Rattle.exchange_model.specs.Cells.{Placed, field_cell, mark_cell, record_cells, marks}
-use Rattle.exchange_model.specs.Fits.{Scope, IsHolder, IsVariable, IsField, IsFile, Reaches, SendFits, TransferFits, ExprFits, KindNames}
+use Rattle.exchange_model.specs.Fits.{Scope, IsHolder, IsVariable, IsField, IsFile, Reaches}
+use Rattle.exchange_model.specs.Fits.{SendFits, TransferFits, ExprFits, KindNames}
 use Rattle.exchange_model.specs.Inside.{own_exprs}
 use Rattle.exchange_model.specs.Kept.{IsExchange, scope_of}
 use Rattle.exchange_model.proofs.Numbers.{field_cell_below}
@@ -30,8 +33,11 @@ use Rattle.exchange_model.proofs.Places.{file_below, variable_below}
 use Rattle.source_meaning.specs.Value.{pointer_fault, may_use}
 use Rattle.source_meaning.specs.Config.{Item, Caller, Config, base_of, files_of}
 use Rattle.source_meaning.specs.Changes.{ends, opens_fields, opens_record}
-use Rattle.source_meaning.specs.Deeds.{Deed, Doing, Starting, Turning, IsExprOf, receiver_in, LooksAt, at_variable, at_field, at_holder, at_searched, at_mark, IsLook}
-use Rattle.source_meaning.specs.Effects.{Effect, Looks, PutsVariable, PutsField, Seizes, Frees, Goes, Posts, Leave, Faults}
+use Rattle.source_meaning.specs.Deeds.{Deed, Doing, Starting, Turning, IsExprOf, receiver_in}
+use Rattle.source_meaning.specs.Deeds.{LooksAt, at_variable, at_field, at_holder, at_searched}
+use Rattle.source_meaning.specs.Deeds.{at_mark, IsLook}
+use Rattle.source_meaning.specs.Effects.{Effect, Looks, PutsVariable, PutsField, Seizes, Frees}
+use Rattle.source_meaning.specs.Effects.{Goes, Posts, Leave, Faults}
 use Rattle.source_meaning.specs.Job.{begins, job}
 use Rattle.source_meaning.specs.Named.{Layer, NamedVariable, NamedField}
 use Rattle.source_meaning.specs.Rests.{AreRests, DeedStands}
@@ -46,7 +52,9 @@ use Rattle.source_meaning.proofs.Rests.{DeedRest, rests_kept, start_rests}
 pub pointer_within : (chain : List Held) (file : ℕ) (p : Placed) (number : ℕ) → pointer_fault chain file p number ≡ None → number < p.file.size
 pointer_within chain file p number sound = by (nat_lt number p.file.size) refl sound
   where
-    by : (b : Bool) → nat_lt number p.file.size ≡ b → (if b then (if may_use chain file p number then None else Some fault.NotOwn) else Some fault.Pointer) ≡ None → number < p.file.size
+    by : (b : Bool) → nat_lt number p.file.size ≡ b
+        → (if b then (if may_use chain file p number then None else Some fault.NotOwn) else Some fault.Pointer) ≡ None
+        → number < p.file.size
     by true is h = ltb-true number p.file.size is
     by false is h = cc
 
@@ -65,7 +73,8 @@ module _ (x : Exchange) (kept : IsExchange x) where
   unfolding base_of
   variable_inside b v k there lt = let below = variable_below x.blocks b v k there lt in let all = kept.numbered.cells in omega arith
 
-  pub cell_inside : (file number place : ℕ) (p : Placed) → slice_get (files_of x) file ≡ Some p → number < p.file.size → place < record_cells p.file → field_cell p number place < x.cells
+  pub cell_inside : (file number place : ℕ) (p : Placed) → slice_get (files_of x) file ≡ Some p → number < p.file.size
+      → place < record_cells p.file → field_cell p number place < x.cells
   unfolding files_of
   cell_inside file number place p there within lt =
       let below = field_cell_below p number place within lt in
@@ -73,22 +82,26 @@ module _ (x : Exchange) (kept : IsExchange x) where
       let all = kept.numbered.cells in
       omega arith
 
-  pub field_inside : (file number field : ℕ) (p : Placed) → slice_get (files_of x) file ≡ Some p → number < p.file.size → field < length p.file.fields → field_cell p number field < x.cells
+  pub field_inside : (file number field : ℕ) (p : Placed) → slice_get (files_of x) file ≡ Some p → number < p.file.size
+      → field < length p.file.fields → field_cell p number field < x.cells
   field_inside file number field p there within lt = cell_inside file number field p there within (omega arith)
 
-  pub mark_inside : (file number : ℕ) (p : Placed) → slice_get (files_of x) file ≡ Some p → number < p.file.size → p.file.forlopp ≡ true → mark_cell p number < x.cells
+  pub mark_inside : (file number : ℕ) (p : Placed) → slice_get (files_of x) file ≡ Some p → number < p.file.size
+      → p.file.forlopp ≡ true → mark_cell p number < x.cells
   mark_inside file number p there within marked =
       let one : marks p.file.forlopp ≡ 1 = ap marks marked in
       cell_inside file number (length p.file.fields) p there within (omega arith)
 
   -- a field of the block's scope is one of the file that its number names
-  pub field_of : (b : ℕ) (k : Block) (file field : ℕ) (p : Placed) → IsField (scope_of x b k) file field → slice_get (files_of x) file ≡ Some p → field < length p.file.fields
+  pub field_of : (b : ℕ) (k : Block) (file field : ℕ) (p : Placed) → IsField (scope_of x b k) file field
+      → slice_get (files_of x) file ≡ Some p → field < length p.file.fields
   unfolding files_of
   field_of b k file field p f there =
       let same : f.placed ≡ p = same_Some f.placed p (sym f.there ∙ there) in
       subst (λ (q : Placed). field < length q.file.fields) same f.within
 
-  pub forlopp_of : (b : ℕ) (k : Block) (file : ℕ) (kind : Bool) (p : Placed) → IsFile (scope_of x b k) file kind → slice_get (files_of x) file ≡ Some p → p.file.forlopp ≡ kind
+  pub forlopp_of : (b : ℕ) (k : Block) (file : ℕ) (kind : Bool) (p : Placed) → IsFile (scope_of x b k) file kind
+      → slice_get (files_of x) file ≡ Some p → p.file.forlopp ≡ kind
   unfolding files_of
   forlopp_of b k file kind p f there =
       let same : f.placed ≡ p = same_Some f.placed p (sym f.there ∙ there) in
@@ -111,7 +124,8 @@ module _ (x : Exchange) (kept : IsExchange x) where
   held_fits : (s : Scope) (h : Holder) (signal : ℕ) (to : Option Receiver) → to ≡ Some (receiver.Held h) → Reaches s to signal → IsHolder s h
   held_fits s h signal to is reaches = (subst (λ o. Reaches s o signal) is reaches).0.0
 
-  send_holder : (s : Scope) (h : Holder) (signal : ℕ) (kind : Option SignalKind) (to : Option Receiver) (values : ℕ) (fresh : Bool) → to ≡ Some (receiver.Held h) → SendFits s kind signal to values fresh → IsHolder s h
+  send_holder : (s : Scope) (h : Holder) (signal : ℕ) (kind : Option SignalKind) (to : Option Receiver) (values : ℕ)
+      (fresh : Bool) → to ≡ Some (receiver.Held h) → SendFits s kind signal to values fresh → IsHolder s h
   send_holder s h signal None to values fresh is fits = absurd fits
   send_holder s h signal (Some (Buffered name level count)) to values fresh is fits = held_fits s h signal to is fits.1
   send_holder s h signal (Some (Direct name count)) to values fresh is fits = held_fits s h signal to is fits.1
@@ -119,7 +133,8 @@ module _ (x : Exchange) (kept : IsExchange x) where
   send_holder s h signal (Some (Answer name count combined)) to values fresh is fits = absurd fits
   send_holder s h signal (Some (Outside name count)) to values fresh is fits = absurd (let none = fits.1 in cc)
 
-  transfer_holder : (s : Scope) (h : Holder) (signal : ℕ) (kind : Option SignalKind) (to : Option Receiver) → to ≡ Some (receiver.Held h) → TransferFits s kind signal to → IsHolder s h
+  transfer_holder : (s : Scope) (h : Holder) (signal : ℕ) (kind : Option SignalKind) (to : Option Receiver)
+      → to ≡ Some (receiver.Held h) → TransferFits s kind signal to → IsHolder s h
   transfer_holder s h signal (Some (Direct name count)) to is fits = held_fits s h signal to is fits
   transfer_holder s h signal _ to is fits = absurd fits
 
@@ -135,11 +150,16 @@ module _ (x : Exchange) (kept : IsExchange x) where
   look_inside : (c : Config) (deed : Deed) (rest : List Item) (cell : ℕ) → DeedStands x c.block deed rest → LooksAt x c deed cell → cell < x.cells
   look_inside c deed rest cell h (at_variable e v of named) =
       let f = deed_expr c.block deed rest e h of in
-      variable_inside c.block v f.block f.there (all_contained (NamedFits (scope_of x c.block f.block)) _ (NamedVariable v) (names_fit (scope_of x c.block f.block) e f.fits) named)
+      variable_inside c.block v f.block f.there
+      (all_contained (NamedFits (scope_of x c.block f.block)) _ (NamedVariable v)
+      (names_fit (scope_of x c.block f.block) e f.fits) named)
   look_inside c deed rest cell h (at_field e file field pointer p of named may) =
       let f = deed_expr c.block deed rest e h of in
-      let is = all_contained (NamedFits (scope_of x c.block f.block)) _ (NamedField file field pointer) (names_fit (scope_of x c.block f.block) e f.fits) named in
-      field_inside file (slice_index c.temps pointer) field p may.there (pointer_within c.own.chain file p (slice_index c.temps pointer) may.sound) (field_of c.block f.block file field p is.0 may.there)
+      let is = all_contained (NamedFits (scope_of x c.block f.block)) _ (NamedField file field pointer)
+      (names_fit (scope_of x c.block f.block) e f.fits) named in
+      field_inside file (slice_index c.temps pointer) field p may.there
+      (pointer_within c.own.chain file p (slice_index c.temps pointer) may.sound)
+      (field_of c.block f.block file field p is.0 may.there)
   look_inside c deed rest cell h (at_holder p {l = l} v is) =
       let f = deed_fits_in x kept c.block p l rest h in
       variable_inside c.block v f.block f.there (holder_variable (scope_of x c.block f.block) l v is f.fits.names)
@@ -152,7 +172,9 @@ module _ (x : Exchange) (kept : IsExchange x) where
 
 -- a record that is opened: what holds of the store to each of its cells
 module _ (Q : Touch → Type 0) where
-  opens_all : (p : Placed) (number field : ℕ) (fields : List Variable) (w : World) → ((i : ℕ) (v : Variable) → slice_get fields i ≡ Some v → Q (Store (field_cell p number (field + i)) v.init)) → AllByRecursion Q w.trace → AllByRecursion Q (opens_fields p number field fields w).trace
+  opens_all : (p : Placed) (number field : ℕ) (fields : List Variable) (w : World)
+      → ((i : ℕ) (v : Variable) → slice_get fields i ≡ Some v → Q (Store (field_cell p number (field + i)) v.init))
+      → AllByRecursion Q w.trace → AllByRecursion Q (opens_fields p number field fields w).trace
   opens_all p number field [] w each all = all
   opens_all p number field (v ∷ rest) w each all =
       let u = writes (field_cell p number field) v.init w in
@@ -162,10 +184,15 @@ module _ (Q : Touch → Type 0) where
       (λ i e at. let past : field + suc i ≡ field + 1 + i = omega arith in subst (λ (n : ℕ). Q (Store (field_cell p number n) e.init)) past (each (suc i) e at))
       (all_append Q w.trace (Store (field_cell p number field) v.init ∷ []) all (here, tt))
 
-  pub record_all : (p : Placed) (number : ℕ) (w : World) → ((i : ℕ) (v : Variable) → slice_get p.file.fields i ≡ Some v → Q (Store (field_cell p number i) v.init)) → Q (Store (mark_cell p number) 0) → AllByRecursion Q w.trace → AllByRecursion Q (opens_record p number w).trace
+  pub record_all : (p : Placed) (number : ℕ) (w : World)
+      → ((i : ℕ) (v : Variable) → slice_get p.file.fields i ≡ Some v → Q (Store (field_cell p number i) v.init))
+      → Q (Store (mark_cell p number) 0) → AllByRecursion Q w.trace → AllByRecursion Q (opens_record p number w).trace
   record_all p number w each mark all =
       let u = opens_fields p number 0 p.file.fields w in
-      all_append Q u.trace (Store (mark_cell p number) 0 ∷ []) (opens_all p number 0 p.file.fields w (λ i v at. let none : i ≡ 0 + i = omega arith in subst (λ (n : ℕ). Q (Store (field_cell p number n) v.init)) none (each i v at)) all) (mark, tt)
+      all_append Q u.trace (Store (mark_cell p number) 0 ∷ [])
+      (opens_all p number 0 p.file.fields w
+      (λ i v at. let none : i ≡ 0 + i = omega arith in subst (λ (n : ℕ). Q (Store (field_cell p number n) v.init))
+      none (each i v at)) all) (mark, tt)
 
 module _ (x : Exchange) (kept : IsExchange x) where
   -- a touch of a cell of the exchange
@@ -175,7 +202,8 @@ module _ (x : Exchange) (kept : IsExchange x) where
   abbrev AreInside : Config → Type 0
   AreInside c = AllByRecursion IsInside c.world.trace
 
-  looks_inside : (c : Config) (deed : Deed) (rest : List Item) (loads : List Touch) → DeedStands x c.block deed rest → AllByRecursion (IsLook x c deed) loads → AllByRecursion IsInside loads
+  looks_inside : (c : Config) (deed : Deed) (rest : List Item) (loads : List Touch) → DeedStands x c.block deed rest
+      → AllByRecursion (IsLook x c deed) loads → AllByRecursion IsInside loads
   looks_inside c deed rest [] h each = tt
   looks_inside c deed rest (t ∷ loads) h each =
       (subst IsInside (sym each.0.is) (look_inside x kept c deed rest each.0.cell h each.0.at), looks_inside c deed rest loads h each.1)
@@ -183,7 +211,8 @@ module _ (x : Exchange) (kept : IsExchange x) where
   one_more : (c : Config) (cell v : ℕ) → cell < x.cells → AreInside c → AllByRecursion IsInside (c.world.trace ++ Store cell v ∷ [])
   one_more c cell v lt all = all_append IsInside c.world.trace (Store cell v ∷ []) all (lt, tt)
 
-  effect_inside : (deed : Deed) (rest : List Item) (c d : Config) → DeedRest x c.block deed rest → AreRests x c → AreInside c → Effect x deed rest c d → AreInside d
+  effect_inside : (deed : Deed) (rest : List Item) (c d : Config) → DeedRest x c.block deed rest → AreRests x c
+      → AreInside c → Effect x deed rest c d → AreInside d
   effect_inside deed rest c d at h all (Looks e loads each) = all_append IsInside c.world.trace loads all (looks_inside c deed rest loads at.0 each)
   effect_inside deed rest c d at h all (PutsVariable e p variable expr v is value fits) =
       let f = deed_fits_in x kept c.block p (stmt.SetVariable variable expr) rest (subst (λ (a : Deed). DeedStands x c.block a rest) is at.0) in
@@ -191,20 +220,27 @@ module _ (x : Exchange) (kept : IsExchange x) where
   effect_inside deed rest c d at h all (PutsField e p file field pointer expr v placed is may value fits) =
       let f = deed_fits_in x kept c.block p (stmt.SetField file field pointer expr) rest (subst (λ (a : Deed). DeedStands x c.block a rest) is at.0) in
       let number = slice_index c.temps pointer in
-      one_more c (field_cell placed number field) v (field_inside x kept file number field placed may.there (pointer_within c.own.chain file placed number may.sound) (field_of x kept c.block f.block file field placed f.fits.names.0 may.there)) all
+      one_more c (field_cell placed number field) v
+      (field_inside x kept file number field placed may.there
+      (pointer_within c.own.chain file placed number may.sound)
+      (field_of x kept c.block f.block file field placed f.fits.names.0 may.there)) all
   effect_inside deed rest c d at h all (Seizes e p temp file label number placed is record_of some room free) =
       let f = deed_fits_in x kept c.block p (stmt.Seize temp file label) rest (subst (λ (a : Deed). DeedStands x c.block a rest) is at.0) in
-      one_more c (mark_cell placed number) 1 (mark_inside x kept file number placed record_of.there record_of.within (forlopp_of x kept c.block f.block file true placed f.fits.names.1 record_of.there)) all
+      one_more c (mark_cell placed number) 1 (mark_inside x kept file number placed record_of.there record_of.within
+      (forlopp_of x kept c.block f.block file true placed f.fits.names.1 record_of.there)) all
   effect_inside deed rest c d at h all (Frees e p temp file placed is may) =
       let f = deed_fits_in x kept c.block p (stmt.Free temp file) rest (subst (λ (a : Deed). DeedStands x c.block a rest) is at.0) in
       let number = slice_index c.temps temp in
       let within = pointer_within c.own.chain file placed number may.sound in
-      record_all IsInside placed number c.world (λ i v there. field_inside x kept file number i placed may.there within (slice_get_within placed.file.fields i v there))
+      record_all IsInside placed number c.world
+      (λ i v there. field_inside x kept file number i placed may.there within
+      (slice_get_within placed.file.fields i v there))
       (mark_inside x kept file number placed may.there within (forlopp_of x kept c.block f.block file true placed f.fits.names.1 may.there)) all
   effect_inside deed rest c d at h all (Goes e todo temps on) = all
   effect_inside deed rest c d at h all (Posts e to vs is room) = all
 
-  leave_inside : (deed : Deed) (rest : List Item) (c d : Config) → DeedRest x c.block deed rest → AreRests x c → AreInside c → Leave x deed rest c d → AreInside d
+  leave_inside : (deed : Deed) (rest : List Item) (c d : Config) → DeedRest x c.block deed rest → AreRests x c
+      → AreInside c → Leave x deed rest c d → AreInside d
   leave_inside deed rest c d at h all (Faults e f why) = all
   leave_inside deed rest c d at h all _ = all
 

@@ -1,10 +1,12 @@
 -- Arrivals: which lines of the signal file are due, and what each of them brings.
-use Rattle.std.specs.Prelude.{ℕ, ◌+◌, nat_le, nat_eq, Bool, ◌||◌, is_none, List, [], ◌∷◌, ◌++◌, if◌then◌else◌}
+use Rattle.std.specs.Prelude.{ℕ, ◌+◌, nat_le, nat_eq, Bool, ◌||◌, is_none, List, [], ◌∷◌, ◌++◌}
+use Rattle.std.specs.Prelude.{if◌then◌else◌}
 use Rattle.job_types.specs.Forlopps.{is_dead}
 use Rattle.job_types.specs.Waiting.{Waiting, joins, pick}
 use Rattle.exchange_model.specs.declared.exchange.Exchange.{Exchange}
 use Rattle.exchange_model.specs.Names.{level_of}
-use Rattle.source_meaning.specs.State.{State, Coming, Origin, Fresh, Bare, Same, Arrived, Lost, has_stopped}
+use Rattle.source_meaning.specs.State.{State, Coming, Origin, Fresh, Bare, Same, Arrived, Lost}
+use Rattle.source_meaning.specs.State.{has_stopped}
 
 -- the forlopp that a line got
 abbrev pub given_to : List Arrived → ℕ → ℕ
@@ -25,13 +27,24 @@ abbrev pub comes : Exchange → Coming → ℕ → State → State
 comes x l forlopp s =
     (if is_dead s.dead forlopp
     then record s { events = s.events ++ Lost l.number ∷ [] }
-    else record s { waiting = joins (record { entry = l.entry; level = level_of x l.entry; values = l.values; forlopp = forlopp }) s.waiting })
+    else record s {
+      waiting = joins (record {
+        entry = l.entry;
+        level = level_of x l.entry;
+        values = l.values;
+        forlopp = forlopp;
+      }) s.waiting;
+    })
 
 -- a line arrives, and these are left
 abbrev pub arrives : Exchange → Coming → List Coming → State → State
 arrives x l rest s =
     let forlopp = forlopp_for l.origin s in
-    comes x l forlopp (record s { lines = rest; next = next_after l.origin s.next; arrived = s.arrived ++ record { line = l; forlopp = forlopp } ∷ [] })
+    comes x l forlopp (record s {
+      lines = rest;
+      next = next_after l.origin s.next;
+      arrived = s.arrived ++ record { line = l; forlopp = forlopp } ∷ [];
+    })
 
 -- nobody waits
 abbrev pub is_quiet : Waiting → Bool

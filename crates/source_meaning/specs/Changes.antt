@@ -1,8 +1,10 @@
--- What a step may change of a job: it goes on with a value or a record, fails, gives a temporary or a cell a value, takes or
--- gives back a record, sends, asks, returns.
+-- What a step may change of a job: it goes on with a value or a record, fails, gives a temporary or
+-- a cell a value, takes or gives back a record, sends, asks, returns.
 --
 -- Of a record, POINTER is looked for before NOTOWN, and RANGE after both.
-use Rattle.std.specs.Prelude.{ℕ, ◌+◌, ◌^◌, Bool, nat_lt, nat_eq, List, [], ◌∷◌, ◌++◌, length, map, position, slice_get, slice_index, slice_set, Option, Some, None, if◌then◌else◌}
+use Rattle.std.specs.Prelude.{ℕ, ◌+◌, ◌^◌, Bool, nat_lt, nat_eq, List, [], ◌∷◌, ◌++◌, length, map}
+use Rattle.std.specs.Prelude.{position, slice_get, slice_index, slice_set, Option, Some, None}
+use Rattle.std.specs.Prelude.{if◌then◌else◌}
 use Rattle.std.specs.List.{range_with_len}
 use Rattle.std.specs.Option.{option_map_or}
 use Rattle.plex_limits.specs.declared.limits.TheConstants.{MOST_CALLERS, MOST_HELD, MOST_SENT}
@@ -14,7 +16,8 @@ use Rattle.job_types.specs.declared.outcome.Outcome.TheVariants.{Ended, Faulted}
 use Rattle.job_types.specs.declared.touch.Touch.{Touch}
 use Rattle.exchange_model.specs.declared.exchange.Exchange.{Exchange}
 use Rattle.exchange_model.specs.declared.signal.SignalKind.{SignalKind}
-use Rattle.exchange_model.specs.declared.signal.SignalKind.TheVariants.{Buffered, Direct, Combined, Outside}
+use Rattle.exchange_model.specs.declared.signal.SignalKind.TheVariants.{Buffered, Direct, Combined}
+use Rattle.exchange_model.specs.declared.signal.SignalKind.TheVariants.{Outside}
 use Rattle.exchange_model.specs.declared.block.Block.{Block}
 use Rattle.exchange_model.specs.declared.block.Variable.{Variable}
 use Rattle.exchange_model.specs.declared.expr.Expr.{Expr}
@@ -27,8 +30,10 @@ use Rattle.exchange_model.specs.Cells.{Placed, field_cell, mark_cell}
 use Rattle.exchange_model.specs.Kept.{signal_count}
 use Rattle.job_types.specs.Own.{World, seen, writes, eight}
 use Rattle.job_types.specs.Chain.{without}
-use Rattle.source_meaning.specs.Value.{Got, Gives, Fails, expr_value, holder_value, stands, pointer_fault, load_of}
-use Rattle.source_meaning.specs.Config.{Item, Caller, Config, label_of, from_place, from_signal, entry_number, receiver_of, sight, blank}
+use Rattle.source_meaning.specs.Value.{Got, Gives, Fails, expr_value, holder_value, stands}
+use Rattle.source_meaning.specs.Value.{pointer_fault, load_of}
+use Rattle.source_meaning.specs.Config.{Item, Caller, Config, label_of, from_place, from_signal}
+use Rattle.source_meaning.specs.Config.{entry_number, receiver_of, sight, blank}
 
 -- ends
 
@@ -51,7 +56,8 @@ on_value (Fails loads f) c go = fails f (record c { world = seen loads c.world }
 -- goes on with values, from left to right
 abbrev pub on_values : Exchange → List Expr → List ℕ → Config → (List ℕ → Config → Config) → Config
 on_values x [] vs c go = go vs c
-on_values x (e ∷ es) vs c go = on_value (expr_value e (sight x c)) c (λ v d. on_values x es (vs ++ v ∷ []) d go)
+on_values x (e ∷ es) vs c go =
+    on_value (expr_value e (sight x c)) c (λ v d. on_values x es (vs ++ v ∷ []) d go)
 
 -- goes on unless there is a fault
 abbrev pub unless_fault : Option Fault → Config → (Config → Config) → Config
@@ -84,7 +90,8 @@ takes k (t ∷ ts) values temps = takes (k + 1) ts values (slice_set temps t (sl
 -- stored data
 
 abbrev pub variable_width : Exchange → ℕ → ℕ → ℕ
-variable_width x b v = option_map_or (λ (k : Block). option_map_or (λ (e : Variable). e.width) (slice_get k.variables v) 0) (slice_get x.blocks b) 0
+variable_width x b v = option_map_or (λ (k : Block). option_map_or (λ (e : Variable). e.width)
+    (slice_get k.variables v) 0) (slice_get x.blocks b) 0
 
 abbrev pub field_width : Placed → ℕ → ℕ
 field_width p field = option_map_or (λ (e : Variable). e.width) (slice_get p.file.fields field) 0
@@ -92,11 +99,13 @@ field_width p field = option_map_or (λ (e : Variable). e.width) (slice_get p.fi
 -- goes on with a record of a file, unless the job may not use it
 abbrev pub at_record : Option Placed → ℕ → ℕ → Config → (Placed → Config → Config) → Config
 at_record None file number c go = c
-at_record (Some p) file number c go = unless_fault (pointer_fault c.own.chain file p number) c (go p)
+at_record (Some p) file number c go =
+    unless_fault (pointer_fault c.own.chain file p number) c (go p)
 
 -- a field of a record gets a value that fits
 abbrev pub sets_field : ℕ → ℕ → ℕ → Placed → Config → Config
-sets_field number field v p c = where_fits v (field_width p field) c (sets_cell (field_cell p number field) v)
+sets_field number field v p c =
+    where_fits v (field_width p field) c (sets_cell (field_cell p number field) v)
 
 -- searches: the records of a file are looked at from 0 on, up to the one that is found, or all
 
@@ -111,13 +120,17 @@ looked_at (Some number) size = number + 1
 
 -- the loads of one cell in each of the first so many records
 abbrev pub record_loads : (ℕ → ℕ) → ℕ → List ℕ → List Touch
-record_loads cell_of count store = map (λ number. load_of store (cell_of number)) (range_with_len 0 count)
+record_loads cell_of count store =
+    map (λ number. load_of store (cell_of number)) (range_with_len 0 count)
 
 -- goes on with the record that was found, or without one, after the loads
 abbrev pub on_record : (ℕ → ℕ) → (ℕ → Bool) → ℕ → Config → (Option ℕ → Config → Config) → Config
 on_record cell_of test size c go =
     let number = least_record (λ n. test (slice_index c.world.store (cell_of n))) size in
-    go number (record c { world = seen (record_loads cell_of (looked_at number size) c.world.store) c.world })
+    go number (record c {
+      world = seen (record_loads cell_of (looked_at number size) c.world.store)
+          c.world;
+    })
 
 -- to the label with the record in the temporary, or on where there is none
 abbrev pub at_found : Exchange → ℕ → ℕ → List Item → Option ℕ → Config → Config
@@ -127,19 +140,24 @@ at_found x temp label rest (Some number) c = to_label x label (sets_temp temp nu
 abbrev pub for_first : Exchange → Option Placed → ℕ → ℕ → Rel → ℕ → ℕ → List Item → Config → Config
 for_first x None temp field rel v label rest c = goes rest c
 for_first x (Some p) temp field rel v label rest c =
-    on_record (λ n. field_cell p n field) (λ w. stands rel w v) p.file.size c (at_found x temp label rest)
+    on_record (λ n. field_cell p n field) (λ w. stands rel w v) p.file.size c
+    (at_found x temp label rest)
 
 -- records of a forlopp
 
 -- the chain has one record more
 abbrev pub with_record : ℕ → ℕ → Config → Config
-with_record file number c = record c { own = record c.own { chain = c.own.chain ++ record { file = file; number = number } ∷ [] } }
+with_record file number c = record c {
+  own = record c.own
+      { chain = c.own.chain ++ record { file = file; number = number } ∷ [] };
+}
 
 -- unless the chain is full, the record joins it and is marked, and the temporary gets its number
 abbrev pub joins_chain : Placed → ℕ → ℕ → ℕ → List Item → Config → Config
 joins_chain p file temp number rest c =
     (if nat_lt (length c.own.chain) MOST_HELD
-    then goes rest (sets_temp temp number (sets_cell (mark_cell p number) 1 (with_record file number c)))
+    then goes rest (sets_temp temp number (sets_cell (mark_cell p number) 1
+    (with_record file number c)))
     else fails fault.Chain c)
 
 -- the free record joins the chain, or to the label where there is none
@@ -151,12 +169,14 @@ abbrev pub seizes : Exchange → Option Placed → ℕ → ℕ → ℕ → List 
 seizes x None file temp label rest c = goes rest c
 seizes x (Some p) file temp label rest c =
     (if nat_eq c.own.forlopp 0 then fails fault.NoForlopp c
-    else on_record (mark_cell p) (λ mark. nat_eq mark 0) p.file.size c (at_free x p file temp label rest))
+    else on_record (mark_cell p) (λ mark. nat_eq mark 0) p.file.size c
+    (at_free x p file temp label rest))
 
 -- the fields of a record, from this one on, get their INIT values
 abbrev pub opens_fields : Placed → ℕ → ℕ → List Variable → World → World
 opens_fields p number field [] w = w
-opens_fields p number field (v ∷ rest) w = opens_fields p number (field + 1) rest (writes (field_cell p number field) v.init w)
+opens_fields p number field (v ∷ rest) w =
+    opens_fields p number (field + 1) rest (writes (field_cell p number field) v.init w)
 
 -- a record gets its INIT values, and is marked free
 abbrev pub opens_record : Placed → ℕ → World → World
@@ -164,34 +184,53 @@ opens_record p number w = writes (mark_cell p number) 0 (opens_fields p number 0
 
 -- a record is opened and leaves the chain
 abbrev pub frees : ℕ → ℕ → Placed → Config → Config
-frees file number p c = record c { world = opens_record p number c.world; own = record c.own { chain = without c.own.chain file number } }
+frees file number p c = record c {
+  world = opens_record p number c.world;
+  own = record c.own { chain = without c.own.chain file number };
+}
 
 -- signals
 
 -- an activation in a block, with its entry values
 abbrev pub activates : Exchange → ℕ → ℕ → List ℕ → Config → Config
-activates x b signal vs c = record c { block = b; todo = from_signal x b signal; temps = blank; own = record c.own { given = eight vs } }
+activates x b signal vs c = record c {
+  block = b;
+  todo = from_signal x b signal;
+  temps = blank;
+  own = record c.own { given = eight vs };
+}
 
 -- the sender waits, unless eight do
 abbrev pub asks : Exchange → ℕ → ℕ → ℕ → List Item → List ℕ → Config → Config
 asks x b signal answer rest vs c =
     (if nat_lt (length c.callers) MOST_CALLERS
-    then activates x b signal vs (record c { callers = record { block = c.block; todo = rest; temps = c.temps; given = c.own.given; awaits = answer } ∷ c.callers })
+    then activates x b signal vs (record c {
+      callers = record
+          { block = c.block; todo = rest; temps = c.temps; given = c.own.given; awaits = answer }
+          ∷ c.callers;
+    })
     else fails fault.Depth c)
 
 -- a signal joins the outbox, unless that is full
 abbrev pub posts : SendTo → List Item → List ℕ → Config → Config
 posts to rest vs c =
     (if nat_lt (length c.own.sends) MOST_SENT
-    then goes rest (record c { own = record c.own { sends = c.own.sends ++ record { to = to; values = vs } ∷ [] } })
+    then goes rest (record c {
+      own = record c.own
+          { sends = c.own.sends ++ record { to = to; values = vs } ∷ [] };
+    })
     else fails fault.Sends c)
 
 -- a signal is sent to a block, by its kind
-abbrev pub sends : Exchange → Option SignalKind → ℕ → ℕ → Bool → List Item → List ℕ → Config → Config
-sends x (Some (Buffered name level count)) signal b fresh rest vs c = posts (sent_to.Queue (entry_number x b signal) level fresh) rest vs c
+abbrev pub sends : Exchange → Option SignalKind → ℕ → ℕ → Bool → List Item → List ℕ → Config
+    → Config
+sends x (Some (Buffered name level count)) signal b fresh rest vs c =
+    posts (sent_to.Queue (entry_number x b signal) level fresh) rest vs c
 sends x (Some (Direct name count)) signal b fresh rest vs c = activates x b signal vs c
-sends x (Some (Combined name count answer)) signal b fresh rest vs c = asks x b signal answer rest vs c
-sends x (Some (Outside name count)) signal b fresh rest vs c = posts (sent_to.Outside signal) rest vs c
+sends x (Some (Combined name count answer)) signal b fresh rest vs c =
+    asks x b signal answer rest vs c
+sends x (Some (Outside name count)) signal b fresh rest vs c =
+    posts (sent_to.Outside signal) rest vs c
 sends x _ signal b fresh rest vs c = goes rest c
 
 -- back to the caller that waits for this answer
@@ -199,7 +238,13 @@ abbrev pub returns : List Caller → ℕ → List ℕ → Config → Config
 returns [] answer vs c = fails fault.BadEnd c
 returns (k ∷ ks) answer vs c =
     (if nat_eq k.awaits answer
-    then record c { block = k.block; todo = k.todo; temps = k.temps; callers = ks; own = record c.own { given = k.given; answers = eight vs } }
+    then record c {
+      block = k.block;
+      todo = k.todo;
+      temps = k.temps;
+      callers = ks;
+      own = record c.own { given = k.given; answers = eight vs };
+    }
     else fails fault.BadEnd c)
 
 -- how many values a signal has
@@ -211,13 +256,16 @@ abbrev pub at_receiver : Option ℕ → Config → (ℕ → Config → Config) �
 at_receiver None c go = fails fault.Pointer c
 at_receiver (Some b) c go = go b c
 
--- goes on with the receiver of a signal; that of an outside signal, which has none, is not looked at
+-- goes on with the receiver of a signal; that of an outside signal, which has none, is not looked
+-- at
 abbrev pub to_receiver : Exchange → ℕ → Option Receiver → Config → (ℕ → Config → Config) → Config
 to_receiver x signal None c go = go 0 c
 to_receiver x signal (Some (receiver.Block b)) c go = go b c
-to_receiver x signal (Some (receiver.Held h)) c go = on_value (holder_value h (sight x c)) c (λ v d. at_receiver (receiver_of x signal v) d go)
+to_receiver x signal (Some (receiver.Held h)) c go =
+    on_value (holder_value h (sight x c)) c (λ v d. at_receiver (receiver_of x signal v) d go)
 
 -- the choice of the number, or else the other one
 abbrev pub chosen : List When → ℕ → List Stmt → List Stmt
 chosen [] v otherwise = otherwise
-chosen (w ∷ rest) v otherwise = (if nat_eq (out-When w).number v then (out-When w).body else chosen rest v otherwise)
+chosen (w ∷ rest) v otherwise =
+    (if nat_eq (out-When w).number v then (out-When w).body else chosen rest v otherwise)

@@ -1,8 +1,11 @@
 -- A job between two steps, and what the exchange says of the place where it is.
 --
--- What remains to be done is one flat list of items: a branch puts its statements before what follows it, and a jump
--- replaces the list, which drops all loops that the job was in. A turn of a loop is an item, so that each step counts one.
-use Rattle.std.specs.Prelude.{ℕ, zero, suc, Bool, false, nat_lt, nat_eq, ◌&&◌, List, [], ◌∷◌, map, drop, replicate, position, slice_get, Option, Some, None, unwrap_or, if◌then◌else◌}
+-- What remains to be done is one flat list of items: a branch puts its statements before what
+-- follows it, and a jump replaces the list, which drops all loops that the job was in. A turn of a
+-- loop is an item, so that each step counts one.
+use Rattle.std.specs.Prelude.{ℕ, zero, suc, Bool, false, nat_lt, nat_eq, ◌&&◌, List, [], ◌∷◌, map}
+use Rattle.std.specs.Prelude.{drop, replicate, position, slice_get, Option, Some, None, unwrap_or}
+use Rattle.std.specs.Prelude.{if◌then◌else◌}
 use Rattle.std.specs.List.{list_any}
 use Rattle.std.specs.Option.{option_map_or}
 use Rattle.plex_limits.specs.declared.limits.TheConstants.{MOST_TEMPORARIES}
@@ -46,19 +49,22 @@ pub record Config : Type 0 where
   pub world : World
   pub over : Option Outcome
 
--- what the exchange says of a block: its text, the place of a label, and that of the ENTER of a signal
+-- what the exchange says of a block: its text, the place of a label, and that of the ENTER of a
+-- signal
 abbrev pub body_of : Exchange → ℕ → List Stmt
 body_of x b = option_map_or (λ (k : Block). k.body) (slice_get x.blocks b) []
 
 abbrev pub label_of : Exchange → ℕ → ℕ → ℕ
-label_of x b l = option_map_or (λ (k : Block). option_map_or (λ (e : Label). e.place) (slice_get k.labels l) 0) (slice_get x.blocks b) 0
+label_of x b l = option_map_or (λ (k : Block). option_map_or (λ (e : Label). e.place)
+    (slice_get k.labels l) 0) (slice_get x.blocks b) 0
 
 abbrev pub row_place : List Row → ℕ → ℕ
 row_place [] signal = 0
 row_place (r ∷ rest) signal = (if nat_eq r.signal signal then r.place else row_place rest signal)
 
 abbrev pub enter_place : Exchange → ℕ → ℕ → ℕ
-enter_place x b signal = option_map_or (λ (k : Block). row_place k.enters signal) (slice_get x.blocks b) 0
+enter_place x b signal =
+    option_map_or (λ (k : Block). row_place k.enters signal) (slice_get x.blocks b) 0
 
 -- the block receives the signal
 abbrev pub is_receiver : ℕ → Block → Bool
@@ -67,7 +73,8 @@ is_receiver signal k = list_any (λ (r : Row). nat_eq r.signal signal) k.enters
 -- a reference is 1 plus a block's number: the block of it, where that receives the signal
 abbrev pub receiver_of : Exchange → ℕ → ℕ → Option ℕ
 receiver_of x signal zero = None
-receiver_of x signal (suc b) = (if option_map_or (is_receiver signal) (slice_get x.blocks b) false then Some b else None)
+receiver_of x signal (suc b) =
+    (if option_map_or (is_receiver signal) (slice_get x.blocks b) false then Some b else None)
 
 -- the entry of a signal at a block, by its place in the list of entries
 abbrev pub is_entry : ℕ → ℕ → Entry → Bool
@@ -85,7 +92,13 @@ unfoldable pub files_of : Exchange → List Placed
 files_of x = placed_files x.blocks
 
 abbrev pub sight : Exchange → Config → Sight
-sight x c = record { temps = c.temps; store = c.world.store; chain = c.own.chain; first = base_of x c.block; files = files_of x }
+sight x c = record {
+  temps = c.temps;
+  store = c.world.store;
+  chain = c.own.chain;
+  first = base_of x c.block;
+  files = files_of x;
+}
 
 -- the temporaries of a new activation
 abbrev pub blank : List ℕ
@@ -103,10 +116,12 @@ starting (s ∷ rest) = (if is_enter (out-StmtKind s.kind) then Start s ∷ map 
 abbrev pub from_signal : Exchange → ℕ → ℕ → List Item
 from_signal x b signal = starting (drop (enter_place x b signal) (body_of x b))
 
--- what remains from the next item on that is counted: an ENTER that is reached from above does nothing and is not counted,
--- and neither is a loop with no turn left
+-- what remains from the next item on that is counted: an ENTER that is reached from above does
+-- nothing and is not counted, and neither is a loop with no turn left
 unfoldable pub next_counted : List Item → List Item
 next_counted [] = []
-next_counted (Do s ∷ rest) = (if is_enter (out-StmtKind s.kind) then next_counted rest else Do s ∷ rest)
+next_counted (Do s ∷ rest) =
+    (if is_enter (out-StmtKind s.kind) then next_counted rest else Do s ∷ rest)
 next_counted (Start s ∷ rest) = Start s ∷ rest
-next_counted (Turns p t this end body ∷ rest) = (if nat_lt end this then next_counted rest else Turns p t this end body ∷ rest)
+next_counted (Turns p t this end body ∷ rest) =
+    (if nat_lt end this then next_counted rest else Turns p t this end body ∷ rest)

@@ -1,9 +1,10 @@
 -- What a step does, one effect after the other.
 --
--- A step counts an item, and what follows is a list of effects: some that stay in the block, and one that may leave it or end
--- the job. Each of them begins from the temporaries that the job had when it counted, so that whatever sets one comes last. With
--- an effect stands all that the text says of it. So whoever wants a fact of all jobs shows it of each effect, and need not look
--- at statements again.
+-- A step counts an item, and what follows is a list of effects: some that stay in the block, and
+-- one that may leave it or end the job. Each of them begins from the temporaries that the job had
+-- when it counted, so that whatever sets one comes last. With an effect stands all that the text
+-- says of it. So whoever wants a fact of all jobs shows it of each effect, and need not look at
+-- statements again.
 use Rattle.std.specs.Prelude.{◌≡◌, ℕ, ◌+◌, ◌<◌, ◌^◌, true, false, nat_lt, nat_eq}
 use Rattle.std.specs.Prelude.{List, [], ◌∷◌, ◌++◌, length, Some, Ok, slice_index}
 use Rattle.std.specs.List.{AllByRecursion}
@@ -24,7 +25,8 @@ use Rattle.source_meaning.specs.Config.{Item, Caller, Config, base_of, sight, ne
 use Rattle.source_meaning.specs.Changes.{fails, ends, sets_cell, variable_width, field_width}
 use Rattle.source_meaning.specs.Changes.{with_record, frees, activates}
 use Rattle.source_meaning.specs.Deeds.{Deed, deed_of, deed_point, IsValueOf, IsRecordOf, MayUse}
-use Rattle.source_meaning.specs.Deeds.{IsPosting, IsBeginning, IsAsking, IsLook, GoesOn, IsEnd, Why, Doing}
+use Rattle.source_meaning.specs.Deeds.{IsPosting, IsBeginning, IsAsking, IsLook, GoesOn, IsEnd, Why}
+use Rattle.source_meaning.specs.Deeds.{Doing}
 
 -- the record joins the chain, and is marked
 abbrev pub seized : Placed → ℕ → ℕ → Config → Config
@@ -95,7 +97,8 @@ pub data Leave (x : Exchange) (deed : Deed) (rest : List Item) : Config → Conf
       → Leave x deed rest c (record c { over = Some Ended })
   Faults : (c : Config) (f : Fault) → Why x c deed f → Leave x deed rest c (fails f c)
 
--- one effect after the other; each begins while the job has the temporaries that it had when it counted
+-- one effect after the other; each begins while the job has the temporaries that it had when it
+-- counted
 pub data Effects (x : Exchange) (deed : Deed) (rest : List Item) (temps : List ℕ)
     : Config → Config → Type 0 where
   Done : (c : Config) → Effects x deed rest temps c c
@@ -108,7 +111,8 @@ pub data Effects (x : Exchange) (deed : Deed) (rest : List Item) (temps : List �
 abbrev pub with_counted : Item → Config → Config
 with_counted i c = record c { own = counted (deed_point (deed_of i)) c.own }
 
--- one step: the job ends where nothing remains to be done, fails where its count is full, or counts the next item and does it
+-- one step: the job ends where nothing remains to be done, fails where its count is full, or counts
+-- the next item and does it
 pub data Step (x : Exchange) (c : Config) : Config → Type 0 where
   NothingLeft : next_counted c.todo ≡ [] → Step x c (ends c.callers c)
   CountFull : (i : Item) (rest : List Item) → next_counted c.todo ≡ i ∷ rest

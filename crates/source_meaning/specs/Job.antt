@@ -1,6 +1,7 @@
 -- The meaning of a job: it begins at its entry's ENTER and makes step after step until it is over.
 --
--- Each step counts one statement, so that the budget bounds the steps: one step more than the budget is enough.
+-- Each step counts one statement, so that the budget bounds the steps: one step more than the
+-- budget is enough.
 use Rattle.std.specs.Prelude.{ℕ, zero, suc, ◌+◌, List, [], Option, Some, None, slice_get}
 use Rattle.job_types.specs.declared.job.JobStart.{JobStart}
 use Rattle.job_types.specs.declared.outcome.Outcome.{Outcome}
@@ -40,6 +41,7 @@ begins x start store = record {
   over = None;
 }
 
--- the meaning of a job: its store, its trace, its sends, its chain and its outcome are those of the end
+-- the meaning of a job: its store, its trace, its sends, its chain and its outcome are those of the
+-- end
 unfoldable pub job : Exchange → JobStart → List ℕ → Config
 job x start store = after_steps (budget + 1) x (begins x start store)

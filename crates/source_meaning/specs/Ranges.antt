@@ -1,5 +1,5 @@
--- What is in range while a job runs: its numbers are of 32 bits, the stored words fit their widths, what it has sent fits, and
--- its point is one of the exchange.
+-- What is in range while a job runs: its numbers are of 32 bits, the stored words fit their widths,
+-- what it has sent fits, and its point is one of the exchange.
 use Rattle.std.specs.Prelude.{◌≡◌, ℕ, ◌<◌, ◌≤◌, List, length, Option, Some, slice_get}
 use Rattle.std.specs.List.{AllByRecursion}
 use Rattle.plex_limits.specs.declared.limits.TheConstants.{MOST_SENT, MOST_TEMPORARIES}
@@ -29,8 +29,10 @@ pub record CallerInRange (k : Caller) : Type 0 where
 
 -- a signal sent: it goes to an entry as a job would come, or outside
 abbrev pub SentFits : Exchange → SendTo → List ℕ → Type 0
-SentFits x (Queue entry level fresh) values = IsJob x (record { entry = entry; level = level; values = values; forlopp = 0 })
-SentFits x (Outside signal) values = IsOutside (slice_get x.signals signal) × AllByRecursion IsWord values
+SentFits x (Queue entry level fresh) values =
+    IsJob x (record { entry = entry; level = level; values = values; forlopp = 0 })
+SentFits x (Outside signal) values =
+    IsOutside (slice_get x.signals signal) × AllByRecursion IsWord values
 
 -- a fault has a point of the exchange
 abbrev pub OverFits : Exchange → Option Outcome → Type 0

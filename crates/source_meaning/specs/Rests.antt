@@ -1,8 +1,10 @@
--- What remains to be done is built of the text of a block, and what follows an item there is what follows it in the text.
+-- What remains to be done is built of the text of a block, and what follows an item there is what
+-- follows it in the text.
 --
--- "Next" is the statement that follows when nothing jumps, past ENTERs; the next of the last statement of an ON is the ON
--- itself, and after the last statement of a text nothing follows.
-use Rattle.std.specs.Prelude.{◌≡◌, ℕ, ◌≤◌, true, List, [], ◌∷◌, ◌++◌, map, Option, Some, None, slice_get, if◌then◌else◌}
+-- "Next" is the statement that follows when nothing jumps, past ENTERs; the next of the last
+-- statement of an ON is the ON itself, and after the last statement of a text nothing follows.
+use Rattle.std.specs.Prelude.{◌≡◌, ℕ, ◌≤◌, true, List, [], ◌∷◌, ◌++◌, map, Option, Some, None}
+use Rattle.std.specs.Prelude.{slice_get, if◌then◌else◌}
 use Rattle.std.specs.List.{AllByRecursion}
 use Rattle.exchange_model.specs.declared.exchange.Exchange.{Exchange}
 use Rattle.exchange_model.specs.declared.block.Block.{Block}
@@ -13,10 +15,12 @@ use Rattle.exchange_model.specs.declared.stmt.StmtKind.{out-StmtKind}
 use Rattle.exchange_model.specs.declared.stmt.StmtKind.TheOpen.{On}
 use Rattle.exchange_model.specs.Fits.{LayerFits, retrieved}
 use Rattle.exchange_model.specs.Kept.{IsFinish, IsText, entered, scope_of}
-use Rattle.source_meaning.specs.Config.{Item, Do, Start, Turns, Caller, Config, from_place, from_signal, label_of, next_counted}
+use Rattle.source_meaning.specs.Config.{Item, Do, Start, Turns, Caller, Config, from_place}
+use Rattle.source_meaning.specs.Config.{from_signal, label_of, next_counted}
 use Rattle.exchange_model.specs.Kept.{is_enter}
 use Rattle.source_meaning.specs.Named.{Layer}
-use Rattle.source_meaning.specs.Deeds.{Deed, Doing, Starting, Turning, deed_of, deed_point, IsBranch}
+use Rattle.source_meaning.specs.Deeds.{Deed, Doing, Starting, Turning, deed_of, deed_point}
+use Rattle.source_meaning.specs.Deeds.{IsBranch}
 
 -- the point of the item that is counted next
 abbrev pub point_of_first : List Item → Option ℕ
@@ -29,21 +33,28 @@ point_of todo = point_of_first (next_counted todo)
 -- the point of the first of these statements that is no ENTER, or else this one
 abbrev pub first_point : List Stmt → Option ℕ → Option ℕ
 first_point [] end = end
-first_point (s ∷ rest) end = (if is_enter (out-StmtKind s.kind) then first_point rest end else Some s.point)
+first_point (s ∷ rest) end =
+    (if is_enter (out-StmtKind s.kind) then first_point rest end else Some s.point)
 
 -- the point of what remains, where a loop stands for itself whether a turn is left or not
 abbrev pub head_point : List Item → Option ℕ
 head_point [] = None
-head_point (Do s ∷ rest) = (if is_enter (out-StmtKind s.kind) then head_point rest else Some s.point)
+head_point (Do s ∷ rest) =
+    (if is_enter (out-StmtKind s.kind) then head_point rest else Some s.point)
 head_point (Start s ∷ rest) = Some s.point
 head_point (Turns p temp this end body ∷ rest) = Some p
 
--- these statements stand one after the other in the text of a block, and this is the next after them
+-- these statements stand one after the other in the text of a block, and this is the next after
+-- them
 pub data IsRow (x : Exchange) (b : ℕ) : List Stmt → Option ℕ → Type 0 where
   whole : (k : Block) → slice_get x.blocks b ≡ Some k → IsRow x b k.body None
-  later : (s : Stmt) (rest : List Stmt) (end : Option ℕ) → IsRow x b (s ∷ rest) end → IsRow x b rest end
-  branch : (s : Stmt) (rest : List Stmt) (end : Option ℕ) (body : List Stmt) → IsRow x b (s ∷ rest) end → IsBranch (out-StmtKind s.kind) body → IsRow x b body (first_point rest end)
-  turn : (s : Stmt) (rest : List Stmt) (end : Option ℕ) (temp : ℕ) (from upto : Expr) (body : List Stmt) → IsRow x b (s ∷ rest) end → out-StmtKind s.kind ≡ On temp from upto body
+  later : (s : Stmt) (rest : List Stmt) (end : Option ℕ) → IsRow x b (s ∷ rest) end
+      → IsRow x b rest end
+  branch : (s : Stmt) (rest : List Stmt) (end : Option ℕ) (body : List Stmt)
+      → IsRow x b (s ∷ rest) end → IsBranch (out-StmtKind s.kind) body
+      → IsRow x b body (first_point rest end)
+  turn : (s : Stmt) (rest : List Stmt) (end : Option ℕ) (temp : ℕ) (from upto : Expr)
+      (body : List Stmt) → IsRow x b (s ∷ rest) end → out-StmtKind s.kind ≡ On temp from upto body
       → IsRow x b body (Some s.point)
 
 -- a statement of the text of a block, before what follows it there
@@ -56,7 +67,8 @@ pub record StandsInText (x : Exchange) (b : ℕ) (s : Stmt) (rest : List Item) :
   pub ends : head_point more ≡ end
 
 -- an ON of the text, by its point, its temporary and its body, before what follows it there
-pub record IsLoop (x : Exchange) (b : ℕ) (p temp : ℕ) (body : List Stmt) (rest : List Item) : Type 0 where
+pub record IsLoop (x : Exchange) (b : ℕ) (p temp : ℕ) (body : List Stmt) (rest : List Item) : Type
+    0 where
   pub stmt : Stmt
   pub point : stmt.point ≡ p
   pub from : Expr
@@ -68,7 +80,8 @@ pub record IsLoop (x : Exchange) (b : ℕ) (p temp : ℕ) (body : List Stmt) (re
 abbrev pub IsRest : Exchange → ℕ → List Item → Type 0
 IsRest x b [] = Unit {0}
 IsRest x b (Do s ∷ rest) = StandsInText x b s rest × IsRest x b rest
-IsRest x b (Start s ∷ rest) = StandsInText x b s rest × (is_enter (out-StmtKind s.kind) ≡ true) × IsRest x b rest
+IsRest x b (Start s ∷ rest) =
+    StandsInText x b s rest × (is_enter (out-StmtKind s.kind) ≡ true) × IsRest x b rest
 IsRest x b (Turns p temp this end body ∷ rest) = IsLoop x b p temp body rest × IsRest x b rest
 
 -- so it is of a job, and of each caller that waits
@@ -92,7 +105,8 @@ DeedStands x b (Turning p temp this end body) rest = IsLoop x b p temp body rest
 -- from a point to one that is reached past ONs with no turn left
 pub data Past (x : Exchange) (b : ℕ) : Option ℕ → Option ℕ → Type 0 where
   here : (p : Option ℕ) → Past x b p p
-  beyond : (p temp : ℕ) (body : List Stmt) (rest : List Item) (q : Option ℕ) → IsLoop x b p temp body rest → Past x b (head_point rest) q → Past x b (Some p) q
+  beyond : (p temp : ℕ) (body : List Stmt) (rest : List Item) (q : Option ℕ)
+      → IsLoop x b p temp body rest → Past x b (head_point rest) q → Past x b (Some p) q
 
 -- a statement of an exchange's text, by its layer, is of its block
 pub record IsOfBlock (x : Exchange) (b : ℕ) (l : Layer) : Type 0 where

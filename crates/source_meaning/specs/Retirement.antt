@@ -1,9 +1,11 @@
 -- Retirement: what the end of a job changes of an exchange.
 --
--- The job counts as ended, its sends take effect in order, its chain becomes its forlopp's, and then a fault takes effect: it
--- releases the job's forlopp, and where there is none it restarts the exchange. So a signal that a job sent before its fault
--- joins its list first, and is removed with the others.
-use Rattle.std.specs.Prelude.{ℕ, zero, suc, ◌+◌, true, false, List, [], ◌∷◌, ◌++◌, length, slice_get, if◌then◌else◌}
+-- The job counts as ended, its sends take effect in order, its chain becomes its forlopp's, and
+-- then a fault takes effect: it releases the job's forlopp, and where there is none it restarts the
+-- exchange. So a signal that a job sent before its fault joins its list first, and is removed with
+-- the others.
+use Rattle.std.specs.Prelude.{ℕ, zero, suc, ◌+◌, true, false, List, [], ◌∷◌, ◌++◌, length}
+use Rattle.std.specs.Prelude.{slice_get, if◌then◌else◌}
 use Rattle.std.specs.Option.{option_map_or}
 use Rattle.std.specs.FinMap as map
 use Rattle.job_types.specs.declared.chain.Held.{Held}
@@ -15,7 +17,8 @@ use Rattle.job_types.specs.declared.outbox.SendTo.TheVariants.{Queue, Outside}
 use Rattle.job_types.specs.declared.outcome.JobDone.{JobDone}
 use Rattle.job_types.specs.declared.outcome.Outcome.{Outcome}
 use Rattle.job_types.specs.declared.outcome.Outcome.TheVariants.{Ended, Faulted}
-use Rattle.job_types.specs.Forlopps.{ChainMap, all_records, chain_at, dead_below, with_chain, with_dead}
+use Rattle.job_types.specs.Forlopps.{ChainMap, all_records, chain_at, dead_below, with_chain}
+use Rattle.job_types.specs.Forlopps.{with_dead}
 use Rattle.job_types.specs.Own.{World, untouched, writes}
 use Rattle.job_types.specs.Waiting.{count_of, joins, nobody, others, waiting_count}
 use Rattle.exchange_model.specs.declared.block.Block.{Block}
@@ -28,13 +31,26 @@ use Rattle.source_meaning.specs.State.{State, Out, Release, Restart}
 
 -- sends
 
--- a send of a job takes effect: it leaves, joins its list in a new forlopp, or joins it in the job's
+-- a send of a job takes effect: it leaves, joins its list in a new forlopp, or joins it in the
+-- job's
 abbrev pub delivered_to : SendTo → ℕ → List ℕ → State → State
-delivered_to (Outside signal) forlopp values s = record s { events = s.events ++ Out s.ended signal values forlopp ∷ [] }
+delivered_to (Outside signal) forlopp values s =
+    record s { events = s.events ++ Out s.ended signal values forlopp ∷ [] }
 delivered_to (Queue entry level true) forlopp values s =
-    record s { next = s.next + 1; waiting = joins (record { entry = entry; level = level; values = values; forlopp = s.next }) s.waiting }
+    record s {
+      next = s.next + 1;
+      waiting = joins
+          (record { entry = entry; level = level; values = values; forlopp = s.next }) s.waiting;
+    }
 delivered_to (Queue entry level false) forlopp values s =
-    record s { waiting = joins (record { entry = entry; level = level; values = values; forlopp = forlopp }) s.waiting }
+    record s {
+      waiting = joins (record {
+        entry = entry;
+        level = level;
+        values = values;
+        forlopp = forlopp;
+      }) s.waiting;
+    }
 
 abbrev pub delivered : ℕ → Sent → State → State
 delivered forlopp m s = delivered_to m.to forlopp m.values s
@@ -69,7 +85,8 @@ releases x forlopp f point s = record s {
   store = (release_world x (chain_at s.chains forlopp) (untouched s.store)).store;
   chains = with_chain s.chains forlopp [];
   dead = with_dead s.dead forlopp;
-  events = s.events ++ Release forlopp s.ended f point (count_of forlopp s.waiting) (length (chain_at s.chains forlopp)) ∷ [];
+  events = s.events ++ Release forlopp s.ended f point (count_of forlopp s.waiting)
+      (length (chain_at s.chains forlopp)) ∷ [];
 }
 
 -- restart
@@ -96,7 +113,8 @@ begins_anew x f point s = record s {
   chains = map.empty;
   dead = dead_below s.dead s.next;
   restarts = s.restarts + 1;
-  events = s.events ++ Restart s.ended f point (waiting_count s.waiting) (length (all_records s.chains)) ∷ [];
+  events = s.events ++ Restart s.ended f point (waiting_count s.waiting)
+      (length (all_records s.chains)) ∷ [];
 }
 
 -- the retirement of a job
@@ -109,7 +127,8 @@ with_outcome x (suc n) (Faulted f point) s = releases x (suc n) f point s
 
 -- the job counts as ended, its sends take effect, and its chain is kept
 abbrev pub with_sends : JobStart → JobDone → State → State
-with_sends start done s = keeps_chain start.job.forlopp done.chain (all_delivered start.job.forlopp done.sends (record s { ended = s.ended + 1 }))
+with_sends start done s = keeps_chain start.job.forlopp done.chain
+    (all_delivered start.job.forlopp done.sends (record s { ended = s.ended + 1 }))
 
 -- a job retires
 abbrev pub retires : Exchange → JobStart → JobDone → State → State

@@ -1,4 +1,5 @@
--- What words give to a list of touches: a list that was made over some words may be read over others.
+-- What words give to a list of touches: a list that was made over some words may be read over
+-- others.
 use Rattle.std.specs.Prelude.{◌≡◌, ◌⊎◌, ℕ, ◌<◌, length, List, [], ◌∷◌, ◌++◌, slice_index, slice_set}
 use Rattle.std.specs.List.{AllByRecursion}
 use Rattle.job_types.specs.declared.job.JobStart.{JobStart}
@@ -16,8 +17,8 @@ Answers vs [] = Unit {0}
 Answers vs (Load w v ∷ ts) = (slice_index vs w ≡ v) × Answers vs ts
 Answers vs (Store w v ∷ ts) = Answers (slice_set vs w v) ts
 
--- from one world to a later one: these touches were made, whose stores are those of the words, and whose loads found what
--- stood there
+-- from one world to a later one: these touches were made, whose stores are those of the words, and
+-- whose loads found what stood there
 pub record Grows (w v : World) : Type 0 where
   pub touches : List Touch
   pub trace : v.trace ≡ w.trace ++ touches

@@ -1,5 +1,6 @@
 -- Which states an exchange can be in, and which starts fit a state.
-use Rattle.std.specs.Prelude.{◌≡◌, ℕ, zero, suc, ◌+◌, ◌*◌, ◌<◌, ◌≤◌, ◌^◌, true, false, List, [], ◌∷◌, ◌++◌, length, map, Option, Some, slice_get, slice_index}
+use Rattle.std.specs.Prelude.{◌≡◌, ℕ, zero, suc, ◌+◌, ◌*◌, ◌<◌, ◌≤◌, ◌^◌, true, false, List, []}
+use Rattle.std.specs.Prelude.{◌∷◌, ◌++◌, length, map, Option, Some, slice_get, slice_index}
 use Rattle.std.specs.List.{AllByRecursion}
 use Rattle.std.specs.Option.{option_map_or}
 use Rattle.plex_limits.specs.declared.limits.TheConstants.{MOST_HELD, MOST_SENT}
@@ -19,7 +20,8 @@ use Rattle.exchange_model.specs.Cells.{Placed, variable_cell, field_cell, mark_c
 use Rattle.exchange_model.specs.Kept.{signal_count}
 use Rattle.job_types.specs.Chain.{holds}
 use Rattle.source_meaning.specs.Config.{files_of}
-use Rattle.source_meaning.specs.State.{State, Coming, Origin, Bare, Same, Arrived, RunEvent, Out, Release, Lost, Restart, chain_in}
+use Rattle.source_meaning.specs.State.{State, Coming, Origin, Bare, Same, Arrived, RunEvent, Out}
+use Rattle.source_meaning.specs.State.{Release, Lost, Restart, chain_in}
 use Rattle.exchange_model.specs.Names.{level_of}
 
 -- a number of 32 bits
@@ -36,8 +38,12 @@ pub record IsRecordAt (x : Exchange) (file number : ℕ) (p : Placed) : Type 0 w
 -- a word for each cell, and each value fits the width of its variable or field
 pub record StoreFits (x : Exchange) (store : List ℕ) : Type 0 where
   pub whole : length store ≡ x.cells
-  pub variables : (b v : ℕ) (k : Block) (e : Variable) → slice_get x.blocks b ≡ Some k → slice_get k.variables v ≡ Some e → slice_index store (variable_cell x.blocks b v) < 2 ^ e.width
-  pub fields : (file number field : ℕ) (p : Placed) (e : Variable) → IsRecordAt x file number p → slice_get p.file.fields field ≡ Some e → slice_index store (field_cell p number field) < 2 ^ e.width
+  pub variables : (b v : ℕ) (k : Block) (e : Variable) → slice_get x.blocks b ≡ Some k
+      → slice_get k.variables v ≡ Some e → slice_index store (variable_cell x.blocks b v)
+      < 2 ^ e.width
+  pub fields : (file number field : ℕ) (p : Placed) (e : Variable) → IsRecordAt x file number p
+      → slice_get p.file.fields field ≡ Some e
+      → slice_index store (field_cell p number field) < 2 ^ e.width
 
 -- chains
 
@@ -79,13 +85,16 @@ IsFree s file number = (n : ℕ) → holds (chain_at s.chains n) file number ≡
 
 -- a mark is 1 where the record stands in a chain, and else 0
 pub record MarksFit (x : Exchange) (s : State) : Type 0 where
-  pub held : (n : ℕ) (h : Held) (p : Placed) → slice_get (files_of x) h.file ≡ Some p → HoldsRecord s n h → slice_index s.store (mark_cell p h.number) ≡ 1
-  pub free : (file number : ℕ) (p : Placed) → IsRecordAt x file number p → p.file.forlopp ≡ true → IsFree s file number → slice_index s.store (mark_cell p number) ≡ 0
+  pub held : (n : ℕ) (h : Held) (p : Placed) → slice_get (files_of x) h.file ≡ Some p
+      → HoldsRecord s n h → slice_index s.store (mark_cell p h.number) ≡ 1
+  pub free : (file number : ℕ) (p : Placed) → IsRecordAt x file number p → p.file.forlopp ≡ true
+      → IsFree s file number → slice_index s.store (mark_cell p number) ≡ 0
 
 -- jobs
 
 abbrev pub entry_count : Exchange → ℕ → ℕ
-entry_count x entry = option_map_or (λ (e : Entry). option_map_or signal_count (slice_get x.signals e.signal) 0) (slice_get x.entries entry) 0
+entry_count x entry = option_map_or (λ (e : Entry). option_map_or signal_count
+    (slice_get x.signals e.signal) 0) (slice_get x.entries entry) 0
 
 -- an entry of the exchange, with its level and number of values, which are numbers of 32 bits
 pub record IsJob (x : Exchange) (j : Job) : Type 0 where
@@ -118,7 +127,8 @@ HasOrigin Bare = ⊥
 HasOrigin _ = Unit {0}
 
 abbrev pub NamesEarlier : List Coming → Origin → Type 0
-NamesEarlier before (Same line) = (l : Coming) × ((i : ℕ) × (slice_get before i ≡ Some l)) × (l.number ≡ line) × HasOrigin l.origin
+NamesEarlier before (Same line) = (l : Coming) × ((i : ℕ) × (slice_get before i ≡ Some l))
+    × (l.number ≡ line) × HasOrigin l.origin
 NamesEarlier before _ = Unit {0}
 
 -- a line after these

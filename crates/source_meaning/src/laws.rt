@@ -1,5 +1,6 @@
 // What holds of every job, said by clauses.
-ghost use Rattle.std.specs.Prelude.{◌≡◌, ◌<◌, ℕ, List, [], ◌∷◌, length, slice_get, slice_index, Option};
+ghost use Rattle.std.specs.Prelude.{◌≡◌, ◌<◌, ℕ, List, [], ◌∷◌, length, slice_get, slice_index};
+ghost use Rattle.std.specs.Prelude.{Option};
 ghost use Rattle.std.specs.Prelude.{Some};
 ghost use Rattle.job_types.specs.Touches.{NoStore, stored};
 ghost use Rattle.job_types.specs.declared.touch.Touch.{Touch};
@@ -20,8 +21,10 @@ ghost use Rattle.source_meaning.specs.Holdings.{AnyFile, HoldsFrom, RunningFits,
 ghost use Rattle.source_meaning.specs.Job.{after_steps, begins, job};
 ghost use Rattle.source_meaning.specs.Ranges.{HasTemporaries, IsInRange};
 ghost use Rattle.source_meaning.specs.Rests.{AllWaitAtRetrieve, AreRests, BeginsAs, BeginsAt};
-ghost use Rattle.source_meaning.specs.Rests.{IsRest, IsRow, Past, StandsInText, first_point, head_point};
-ghost use Rattle.source_meaning.specs.Rests.{AllEndText, DeedStands, EndsText, IsOfBlock, JumpsTo, point_of};
+ghost use Rattle.source_meaning.specs.Rests.{IsRest, IsRow, Past, StandsInText, first_point};
+ghost use Rattle.source_meaning.specs.Rests.{head_point};
+ghost use Rattle.source_meaning.specs.Rests.{AllEndText, DeedStands, EndsText, IsOfBlock, JumpsTo};
+ghost use Rattle.source_meaning.specs.Rests.{point_of};
 ghost use Rattle.source_meaning.specs.SingleRun.{after, begun, ended_as, next_start, opening};
 ghost use Rattle.source_meaning.specs.State.{Coming, State};
 ghost use Rattle.source_meaning.specs.Step.{step};
@@ -29,8 +32,9 @@ ghost use Rattle.source_meaning.specs.Traces.{AgreeOn, Answers, AreOfCells, Grow
 ghost use Rattle.source_meaning.specs.Traces.{over_words, store_after, trace_of};
 ghost use Rattle.source_meaning.specs.Valid.{IsFitting, IsJob, IsValid, LinesFit, StoreFits};
 
-/// Each step counts one item and makes effects, or ends the job. Each of the effects begins while the job has the temporaries
-/// that it had when it counted. Whatever each effect keeps, a step keeps.
+/// Each step counts one item and makes effects, or ends the job. Each of the effects begins while
+/// the job has the temporaries that it had when it counted. Whatever each effect keeps, a step
+/// keeps.
 pub fn steps_make_effects()
     ensures { (x : Exchange) (c : Config) → Step x c (step x c) }
 {}
@@ -41,8 +45,8 @@ pub fn jobs_end()
         → (o : Outcome) × ((job x start store).over ≡ Some o) }
 {}
 
-/// The trace of a job only grows. It tells the store that the job leaves, and each of its loads found the value that the word
-/// had then.
+/// The trace of a job only grows. It tells the store that the job leaves, and each of its loads
+/// found the value that the word had then.
 pub fn traces_tell()
     ensures grows { (x : Exchange) (c : Config) → Grows c.world (step x c).world }
     ensures store { (x : Exchange) (start : JobStart) (store : List ℕ)
@@ -51,9 +55,10 @@ pub fn traces_tell()
         → Answers store (trace_of x start store) }
 {}
 
-/// A job depends on the words that it loads, and on no others: over words that answer its trace it is the same job with the
-/// same trace, and so are as many steps of it. So it is where two stores agree on every cell that it touches, and they agree
-/// there after it; so it is after stores that leave these cells alone. A cell that it does not store to keeps its value.
+/// A job depends on the words that it loads, and on no others: over words that answer its trace it
+/// is the same job with the same trace, and so are as many steps of it. So it is where two stores
+/// agree on every cell that it touches, and they agree there after it; so it is after stores that
+/// leave these cells alone. A cell that it does not store to keeps its value.
 pub fn jobs_are_framed()
     ensures steps { (n : ℕ) (x : Exchange) (start : JobStart) (store words : List ℕ)
         → Answers words (after_steps n x (begins x start store)).world.trace
@@ -78,16 +83,17 @@ pub fn jobs_are_framed()
         → length (store_after x start store) ≡ length store }
 {}
 
-/// What remains to be done is of the text of its block, so that each item that is counted stands in that text, before what
-/// follows it there. From the head of what remains that item is the next, or comes past ONs with no turn left. Each caller
-/// waits at the RETRIEVE of its answer.
+/// What remains to be done is of the text of its block, so that each item that is counted stands in
+/// that text, before what follows it there. From the head of what remains that item is the next, or
+/// comes past ONs with no turn left. Each caller waits at the RETRIEVE of its answer.
 pub fn rests_are_of_the_text()
     ensures job { (x : Exchange) (start : JobStart) (store : List ℕ) (n : ℕ)
         → AreRests x (after_steps n x (begins x start store)) }
     ensures counted { (x : Exchange) (b : ℕ) (todo : List Item) (i : Item) (rest : List Item)
         → IsRest x b todo → next_counted todo ≡ i ∷ rest
         → DeedStands x b (deed_of i) rest × IsRest x b rest }
-    ensures next { (x : Exchange) (b : ℕ) (s : Stmt) (rest : List Item) (h : StandsInText x b s rest)
+    ensures next { (x : Exchange) (b : ℕ) (s : Stmt) (rest : List Item)
+        (h : StandsInText x b s rest)
         → head_point rest ≡ first_point h.list h.end }
     ensures point { (x : Exchange) (b : ℕ) (todo : List Item)
         → IsRest x b todo → Past x b (head_point todo) (point_of todo) }
@@ -95,8 +101,8 @@ pub fn rests_are_of_the_text()
         → IsExchange x → AllWaitAtRetrieve (after_steps n x (begins x start store)) }
 {}
 
-/// What stands in the text of an exchange is of its block; a combined SEND stands directly before the RETRIEVE of its answer,
-/// and a RETRIEVE nowhere else.
+/// What stands in the text of an exchange is of its block; a combined SEND stands directly before
+/// the RETRIEVE of its answer, and a RETRIEVE nowhere else.
 pub fn texts_are_kept()
     ensures fits { (x : Exchange) (b : ℕ) (s : Stmt) (rest : List Item)
         → IsExchange x → StandsInText x b s rest → IsOfBlock x b (out-StmtKind s.kind) }
@@ -105,8 +111,8 @@ pub fn texts_are_kept()
         → ArePaired x.signals (awaited x.signals (out-StmtKind s.kind)) rest }
 {}
 
-/// An activation begins at the ENTER of its signal: that of a job at the point of its entry, and any other in the block that
-/// the signal goes to, which receives it. It has all temporaries.
+/// An activation begins at the ENTER of its signal: that of a job at the point of its entry, and
+/// any other in the block that the signal goes to, which receives it. It has all temporaries.
 pub fn activations_begin_at_their_enter()
     ensures entry { (x : Exchange) (n : ℕ) (e : Entry)
         → IsExchange x → slice_get x.entries n ≡ Some e → BeginsAs x e }
@@ -122,8 +128,8 @@ pub fn activations_begin_at_their_enter()
         → HasTemporaries (after_steps n x (begins x start store)) }
 {}
 
-/// A jump goes to the statement at its label, which is no RETRIEVE. What remains to be done ends with the end of the text, so
-/// that each step of a job that is not over counts an item.
+/// A jump goes to the statement at its label, which is no RETRIEVE. What remains to be done ends
+/// with the end of the text, so that each step of a job that is not over counts an item.
 pub fn texts_come_to_their_end()
     ensures label { (x : Exchange) (b label : ℕ) (k : Block)
         → IsExchange x → slice_get x.blocks b ≡ Some k → label < length k.labels
@@ -139,8 +145,9 @@ pub fn touches_are_of_the_exchange()
         → IsExchange x → AreOfCells x (trace_of x start store) }
 {}
 
-/// What is in range when a job begins stays so: each of its numbers is below 2^32, the stored words fit their widths, what it
-/// has sent fits, and its point, and that of its fault, is one of the exchange.
+/// What is in range when a job begins stays so: each of its numbers is below 2^32, the stored words
+/// fit their widths, what it has sent fits, and its point, and that of its fault, is one of the
+/// exchange.
 pub fn jobs_stay_in_range()
     ensures steps { (x : Exchange) (n : ℕ) (start : JobStart) (store : List ℕ)
         → IsExchange x → IsJob x start.job → StoreFits x store
@@ -149,8 +156,9 @@ pub fn jobs_stay_in_range()
         → IsExchange x → IsJob x start.job → StoreFits x store → IsInRange x (job x start store) }
 {}
 
-/// A record that a job holds was in its chain when it began, or was free then. While a job runs that began in a valid state,
-/// chains and marks fit one another, its own chain in the place of its forlopp's.
+/// A record that a job holds was in its chain when it began, or was free then. While a job runs
+/// that began in a valid state, chains and marks fit one another, its own chain in the place of its
+/// forlopp's.
 pub fn records_are_held()
     ensures from { (x : Exchange) (n : ℕ) (start : JobStart) (store : List ℕ)
         → IsExchange x → IsJob x start.job → StoreFits x store
@@ -160,8 +168,9 @@ pub fn records_are_held()
         → RunningFits x (running start.job.forlopp s (after_steps n x (begins x start s.store))) }
 {}
 
-/// The opening is valid where its lines fit, and each state that follows a valid one is valid: after lines have arrived, after a
-/// job that begins there has come to its end and retired, and after any number of jobs. The next start fits.
+/// The opening is valid where its lines fit, and each state that follows a valid one is valid:
+/// after lines have arrived, after a job that begins there has come to its end and retired, and
+/// after any number of jobs. The next start fits.
 pub fn states_stay_valid()
     ensures opening { (x : Exchange) (lines : List Coming)
         → IsExchange x → LinesFit x [] lines → IsValid x (opening x lines) }

@@ -1,12 +1,15 @@
 -- The words that spans gain, one span after the other.
-use Rattle.std.proofs.Common.{◌≡◌, ◌⊎◌, inl, inr, ⊎_elim, ℕ, suc, ◌+◌, ◌-◌, ◌*◌, ◌^◌, ◌<◌, ◌≤◌, Bool, true, false, ◌||◌, List, [], ◌∷◌, ◌++◌, length, take, get_or, refl, sym, ap, ◌∙◌, subst, arith, suc-mul}
+use Rattle.std.proofs.Common.{◌≡◌, ◌⊎◌, inl, inr, ⊎_elim, ℕ, suc, ◌+◌, ◌-◌, ◌*◌, ◌^◌, ◌<◌, ◌≤◌}
+use Rattle.std.proofs.Common.{Bool, true, false, ◌||◌, List, [], ◌∷◌, ◌++◌, length, take, get_or}
+use Rattle.std.proofs.Common.{refl, sym, ap, ◌∙◌, subst, arith, suc-mul}
 use Rattle.std.specs.Prelude.{◌↔◌, IsTrue}
 use Rattle.std.specs.List.{Contains}
 use Rattle.std.proofs.Math.Nat.{add-mul}
 use Rattle.std.proofs.lemmas.Bool.{false≢true}
 use Rattle.std.proofs.lemmas.Nat.{mul-le}
 use Rattle.std.proofs.lemmas.List.{take_all, take_more}
-use Rattle.std.proofs.lemmas.List.Elements.{Contains-append_left, Contains-push, Contains-push_cases}
+use Rattle.std.proofs.lemmas.List.Elements.{Contains-append_left, Contains-push}
+use Rattle.std.proofs.lemmas.List.Elements.{Contains-push_cases}
 use Rattle.std.proofs.lemmas.List.Folds.{list_any-append}
 use Rattle.plex_num.proofs.Members.{none_in}
 use Rattle.machine_code.specs.declared.permit.Span.{Span}
@@ -34,7 +37,8 @@ has : (old new : List Span) (s : Span) (w : ℕ) → new ≡ old ++ s ∷ [] →
 has old new s w is = ap (λ l. spanned l w) is ∙ list_any-append (λ (t : Span). spans t w) old (s ∷ [])
 
 -- one span more
-pub push_gains : (G : ℕ → Type 0) (old new : List Span) (s : Span) → new ≡ old ++ s ∷ [] → ((w : ℕ) → spans s w ≡ true → G w) → ((w : ℕ) → G w → spans s w ≡ true) → Gains G old new
+pub push_gains : (G : ℕ → Type 0) (old new : List Span) (s : Span) → new ≡ old ++ s ∷ []
+    → ((w : ℕ) → spans s w ≡ true → G w) → ((w : ℕ) → G w → spans s w ≡ true) → Gains G old new
 push_gains G old new s is there back = record {
   each = λ w h. ⊎_elim (λ was. inl was) (λ now. inr (there w now)) (either (spanned old w) (spans s w) (sym (has old new s w is) ∙ h));
   back = λ w h. has old new s w is ∙ both (spanned old w) (spans s w) (⊎_elim (λ was. inl was) (λ g. inr (back w g)) h);
@@ -57,10 +61,16 @@ go_begin G old = none_gained (OneOf G []) old (λ w o. none_in o.item o.there)
 pub go_new : {X : Type 0} (G : X → ℕ → Type 0) (now : List Span) → now ≡ [] → Gains (OneOf G []) [] now
 go_new G now none = subst (λ l. Gains (OneOf G []) l now) none (go_begin G now)
 
-pub go_more : {X : Type 0} (G : X → ℕ → Type 0) (xs : List X) (i : ℕ) (d : X) (old now new : List Span) → i < length xs → Gains (G (get_or xs i d)) now new → Gains (OneOf G (take i xs)) old now → Gains (OneOf G (take (i + 1) xs)) old new
+pub go_more : {X : Type 0} (G : X → ℕ → Type 0) (xs : List X) (i : ℕ) (d : X) (old now new : List Span) → i < length xs
+    → Gains (G (get_or xs i d)) now new → Gains (OneOf G (take i xs)) old now
+    → Gains (OneOf G (take (i + 1) xs)) old new
 go_more {X} G xs i d old now new lt h g = record {
-  each = λ w s. ⊎_elim (λ now. ⊎_elim (λ was. inl was) (λ o. inr (record { item = o.item; there = earlier o.item o.there; gives = o.gives })) (g.each w now)) (λ k. inr (record { item = get_or xs i d; there = last; gives = k })) (h.each w s);
-  back = λ w s. ⊎_elim (λ was. h.back w (inl (g.back w (inl was)))) (λ o. ⊎_elim (λ c. h.back w (inl (g.back w (inr (record { item = o.item; there = c; gives = o.gives }))))) (λ same. h.back w (inr (subst (λ y. G y w) (sym same) o.gives))) (split o.item o.there)) s;
+  each = λ w s. ⊎_elim (λ now. ⊎_elim (λ was. inl was)
+      (λ o. inr (record { item = o.item; there = earlier o.item o.there; gives = o.gives })) (g.each w now))
+      (λ k. inr (record { item = get_or xs i d; there = last; gives = k })) (h.each w s);
+  back = λ w s. ⊎_elim (λ was. h.back w (inl (g.back w (inl was))))
+      (λ o. ⊎_elim (λ c. h.back w (inl (g.back w (inr (record { item = o.item; there = c; gives = o.gives })))))
+      (λ same. h.back w (inr (subst (λ y. G y w) (sym same) o.gives))) (split o.item o.there)) s;
 }
   where
     longer : take (i + 1) xs ≡ take i xs ++ get_or xs i d ∷ []
@@ -75,7 +85,8 @@ go_more {X} G xs i d old now new lt h g = record {
     split : (y : X) → Contains (take (i + 1) xs) y → Contains (take i xs) y ⊎ (get_or xs i d ≡ y)
     split y c = Contains-push_cases (take i xs) (get_or xs i d) y (subst (λ l. Contains l y) longer c)
 
-pub go_end : {X : Type 0} (G : X → ℕ → Type 0) (xs : List X) (i : ℕ) (old now : List Span) → length xs ≤ i → Gains (OneOf G (take i xs)) old now → Gains (OneOf G xs) old now
+pub go_end : {X : Type 0} (G : X → ℕ → Type 0) (xs : List X) (i : ℕ) (old now : List Span) → length xs ≤ i
+    → Gains (OneOf G (take i xs)) old now → Gains (OneOf G xs) old now
 go_end G xs i old now past g = subst (λ l. Gains (OneOf G l) old now) (take_all i xs past) g
 
 -- from no span on, the words are those of the items
@@ -90,7 +101,8 @@ no_run row place run old none = none_gained (InRow row place run) old (λ w r. (
 first_in : (run : Run) → 0 < run.count → InRun run run.first
 first_in run some = (omega arith, omega (arith, some))
 
-pub run_fits : (row : FileRow) (place : ℕ) (run : Run) → 0 < run.count → RowFits row place → IsBelow row.size run → row.first + run.first * row.stride + place < 2 ^ 32
+pub run_fits : (row : FileRow) (place : ℕ) (run : Run) → 0 < run.count → RowFits row place → IsBelow row.size run
+    → row.first + run.first * row.stride + place < 2 ^ 32
 run_fits row place run some fits below =
     let lt = below.below run.first (first_in run some) in
     let next : suc run.first * row.stride ≡ run.first * row.stride + row.stride = suc-mul run.first row.stride in

@@ -1,5 +1,7 @@
--- Which words a job may read and write, told from what the jobs of its entry may do, its start, and the chains of all forlopps.
-use Rattle.std.specs.Prelude.{◌≡◌, ◌⊎◌, ◌↔◌, ℕ, ◌<◌, Bool, true, false, List, length, Some, slice_get, slice_index}
+-- Which words a job may read and write, told from what the jobs of its entry may do, its start, and
+-- the chains of all forlopps.
+use Rattle.std.specs.Prelude.{◌≡◌, ◌⊎◌, ◌↔◌, ℕ, ◌<◌, Bool, true, false, List, length, Some}
+use Rattle.std.specs.Prelude.{slice_get, slice_index}
 use Rattle.std.specs.List.{Contains}
 use Rattle.job_types.specs.declared.chain.Held.{Held}
 use Rattle.job_types.specs.declared.job.JobStart.{JobStart}
@@ -12,7 +14,8 @@ use Rattle.source_meaning.specs.Deeds.{IsFileAt}
 use Rattle.flow_points.specs.declared.fact.Value.{Value}
 use Rattle.flow_points.specs.declared.fact.Value.TheVariants.{Arg, Const, Any}
 use Rattle.entry_summary.specs.declared.summary.Access.{Access}
-use Rattle.entry_summary.specs.declared.summary.Access.TheVariants.{Variable, Field, Own, Seizes, Frees}
+use Rattle.entry_summary.specs.declared.summary.Access.TheVariants.{Variable, Field, Own, Seizes}
+use Rattle.entry_summary.specs.declared.summary.Access.TheVariants.{Frees}
 use Rattle.entry_summary.specs.declared.summary.Summary.{Summary}
 use Rattle.entry_summary.specs.Numbers.{variable_number, field_number}
 use Rattle.store_layout.specs.Laid.{IsLayout}
@@ -77,7 +80,8 @@ Selects values Any number = Unit {0}
 abbrev pub IsFree : ChainMap → ℕ → ℕ → Type 0
 IsFree chains file number = (n : ℕ) → holds (chain_at chains n) file number ≡ false
 
--- a record that the job may hold: it stands in its chain, or is free and of a file that it may seize
+-- a record that the job may hold: it stands in its chain, or is free and of a file that it may
+-- seize
 abbrev pub MayHold : List Access → List Held → ChainMap → ℕ → ℕ → Type 0
 MayHold accesses chain chains file number =
     (holds chain file number ≡ true) ⊎ (Contains accesses (Seizes file) × IsFree chains file number)
@@ -100,13 +104,18 @@ Does write (Frees file) = true ≡ write
 -- the words that an access writes, or reads
 abbrev pub HasWord : Exchange → List Access → JobStart → ChainMap → Bool → Access → ℕ → Type 0
 HasWord x accesses start chains write (Variable writes number) word = IsVariableWord x number word
-HasWord x accesses start chains write (Field writes number selector) word = IsOfField x number (λ file. Selects start.job.values selector) word
-HasWord x accesses start chains write (Own writes number) word = IsOfField x number (MayHold accesses start.chain chains) word
-HasWord x accesses start chains write (Seizes file) word = IsOfMark x file (Marks write chains file) word
-HasWord x accesses start chains write (Frees file) word = IsOfMark x file (MayHold accesses start.chain chains file) word
+HasWord x accesses start chains write (Field writes number selector) word =
+    IsOfField x number (λ file. Selects start.job.values selector) word
+HasWord x accesses start chains write (Own writes number) word =
+    IsOfField x number (MayHold accesses start.chain chains) word
+HasWord x accesses start chains write (Seizes file) word =
+    IsOfMark x file (Marks write chains file) word
+HasWord x accesses start chains write (Frees file) word =
+    IsOfMark x file (MayHold accesses start.chain chains file) word
 
 -- an access, one of all these, lets a job write the word, or read it
-pub record Lets (x : Exchange) (all : List Access) (start : JobStart) (chains : ChainMap) (write : Bool) (access : Access) (word : ℕ) : Type 0 where
+pub record Lets (x : Exchange) (all : List Access) (start : JobStart) (chains : ChainMap)
+    (write : Bool) (access : Access) (word : ℕ) : Type 0 where
   pub does : Does write access
   pub has : HasWord x all start chains write access word
 
@@ -116,12 +125,15 @@ MayWrite x s start chains word = OneOf (Lets x s.accesses start chains true) s.a
 
 -- the job may read the word: it may read what it may write
 abbrev pub MayRead : Exchange → Summary → JobStart → ChainMap → ℕ → Type 0
-MayRead x s start chains word = OneOf (Lets x s.accesses start chains false) s.accesses word ⊎ MayWrite x s start chains word
+MayRead x s start chains word =
+    OneOf (Lets x s.accesses start chains false) s.accesses word ⊎ MayWrite x s start chains word
 
 -- where the variables and fields of an exchange stand, by their numbers
 pub record IsCellTable (x : Exchange) (t : CellTable) : Type 0 where
-  pub variables : (number word : ℕ) → (slice_get t.variables number ≡ Some word) ↔ IsVariableWord x number word
-  pub fields : (number : ℕ) (f : FieldPlace) → (slice_get t.fields number ≡ Some f) ↔ IsFieldNumber x number f.file f.field
+  pub variables : (number word : ℕ) → (slice_get t.variables number ≡ Some word)
+      ↔ IsVariableWord x number word
+  pub fields : (number : ℕ) (f : FieldPlace) → (slice_get t.fields number ≡ Some f)
+      ↔ IsFieldNumber x number f.file f.field
 
 -- the layout and the table are those of the exchange
 pub record AreGrounds (g : Grounds) : Type 0 where

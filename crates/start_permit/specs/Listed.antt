@@ -1,5 +1,7 @@
--- The words of all variables of an exchange, and the places of all its fields, in the order of their numbers.
-use Rattle.std.specs.Prelude.{◌≡◌, ℕ, ◌+◌, ◌<◌, ◌^◌, List, [], ◌∷◌, ◌++◌, length, map, Some, slice_get}
+-- The words of all variables of an exchange, and the places of all its fields, in the order of
+-- their numbers.
+use Rattle.std.specs.Prelude.{◌≡◌, ℕ, ◌+◌, ◌<◌, ◌^◌, List, [], ◌∷◌, ◌++◌, length, map, Some}
+use Rattle.std.specs.Prelude.{slice_get}
 use Rattle.std.specs.List.{range_with_len}
 use Rattle.exchange_model.specs.declared.block.Block.{Block}
 use Rattle.exchange_model.specs.declared.block.File.{File}
@@ -14,7 +16,8 @@ words_from first count = map (λ i. first + i) (range_with_len 0 count)
 -- the words of the variables of these blocks, the first of which begins at this cell
 unfoldable pub variable_words : ℕ → List Block → List ℕ
 variable_words cell [] = []
-variable_words cell (b ∷ bs) = words_from cell (length b.variables) ++ variable_words (cell + block_cells b) bs
+variable_words cell (b ∷ bs) =
+    words_from cell (length b.variables) ++ variable_words (cell + block_cells b) bs
 
 -- the places of the fields of a file, of a block, and of these blocks
 abbrev pub place_at : ℕ → ℕ → FieldPlace

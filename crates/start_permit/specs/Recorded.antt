@@ -1,5 +1,6 @@
 -- Records of a file, told as runs of numbers, and the words that a list of spans has.
-use Rattle.std.specs.Prelude.{◌≡◌, ◌⊎◌, ℕ, ◌+◌, ◌*◌, ◌<◌, ◌≤◌, ◌&&◌, Bool, true, nat_eq, nat_lt, List, filter, map}
+use Rattle.std.specs.Prelude.{◌≡◌, ◌⊎◌, ℕ, ◌+◌, ◌*◌, ◌<◌, ◌≤◌, ◌&&◌, Bool, true, nat_eq, nat_lt}
+use Rattle.std.specs.Prelude.{List, filter, map}
 use Rattle.std.specs.List.{list_any}
 use Rattle.job_types.specs.declared.chain.Held.{Held}
 use Rattle.machine_code.specs.declared.permit.Span.{Span}

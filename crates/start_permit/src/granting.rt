@@ -1,11 +1,15 @@
 // The words of each access of a summary, told as spans.
-ghost use Rattle.std.specs.Prelude.{◌≡◌, ◌↔◌, ◌+◌, ◌*◌, ◌<◌, ◌^◌, ℕ, true, false, IfOk, OnOk, IsTrue, MatchOption, None, slice_get};
+ghost use Rattle.std.specs.Prelude.{◌≡◌, ◌↔◌, ◌+◌, ◌*◌, ◌<◌, ◌^◌, ℕ, true, false, IfOk, OnOk};
+ghost use Rattle.std.specs.Prelude.{IsTrue, MatchOption, None, slice_get};
 ghost use Rattle.exchange_model.specs.declared.exchange.Exchange as declared;
 ghost use Rattle.job_types.specs.Forlopps.{ChainMap, all_records};
 ghost use Rattle.source_meaning.specs.Config.{files_of};
 ghost use Rattle.store_layout.specs.Laid.{IsLayout};
-ghost use Rattle.start_permit.specs.Granted.{AreGrounds, Does, HasWord, IsOfField, IsOfMark, IsCellTable, IsVariableWord, Lets, Marks, MayHold, OneOf, Selects};
-ghost use Rattle.start_permit.specs.Recorded.{AreBelow, Gains, InRow, IsBelow, IsRowOf, RowFits, spanned};
+ghost use Rattle.start_permit.specs.Granted.{AreGrounds, Does, HasWord, IsOfField, IsOfMark};
+ghost use Rattle.start_permit.specs.Granted.{IsCellTable, IsVariableWord, Lets, Marks, MayHold};
+ghost use Rattle.start_permit.specs.Granted.{OneOf, Selects};
+ghost use Rattle.start_permit.specs.Recorded.{AreBelow, Gains, InRow, IsBelow, IsRowOf, RowFits};
+ghost use Rattle.start_permit.specs.Recorded.{spanned};
 
 use crate::runs::{Run, all_below, free_runs, own_runs, selected};
 use crate::table::CellTable;

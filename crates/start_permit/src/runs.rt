@@ -6,7 +6,8 @@ ghost use Rattle.job_types.specs.Chain.{holds};
 ghost use Rattle.job_types.specs.Forlopps.{ChainMap, all_records};
 ghost use Rattle.entry_summary.specs.declared.summary.Access.TheVariants as access;
 ghost use Rattle.start_permit.specs.Granted.{IsFree, MayHold, Selects};
-ghost use Rattle.start_permit.specs.Recorded.{AreBelow, AreRuns, InRun, IsRunOf, numbers_of, one_run};
+ghost use Rattle.start_permit.specs.Recorded.{AreBelow, AreRuns, InRun, IsRunOf, numbers_of};
+ghost use Rattle.start_permit.specs.Recorded.{one_run};
 
 use entry_summary::Access;
 use flow_points::Value;

@@ -4,7 +4,8 @@ ghost use Rattle.std.specs.List.{range_with_len};
 ghost use Rattle.exchange_model.specs.Cells.{cell_count};
 ghost use Rattle.exchange_model.specs.Inside.{joined};
 ghost use Rattle.start_permit.specs.Granted.{IsCellTable};
-ghost use Rattle.start_permit.specs.Listed.{AllSmall, AreSmall, field_places, file_places, place_at, variable_words, words_from};
+ghost use Rattle.start_permit.specs.Listed.{AllSmall, AreSmall, field_places, file_places};
+ghost use Rattle.start_permit.specs.Listed.{place_at, variable_words, words_from};
 
 use exchange_model::{Block, Exchange, File};
 use plex_num::{Memory, Seq};
@@ -17,7 +18,8 @@ pub struct FieldPlace {
     pub field: u32,
 }
 
-/// The word of each variable of an exchange, and the place of each field, by their numbers through it.
+/// The word of each variable of an exchange, and the place of each field, by their numbers through
+/// it.
 pub struct CellTable {
     pub variables: Seq<u32>,
     pub fields: Seq<FieldPlace>,

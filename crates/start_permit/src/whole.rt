@@ -15,8 +15,9 @@ use plex_num::Memory;
 use std::alloc::Global;
 use store_layout::Layout;
 
-/// The words that a job of this start may read and write, by what the jobs of its entry may do and by which records stand in
-/// the chains. The table is that of the exchange, and so is the layout. Memory is the only reason for an error.
+/// The words that a job of this start may read and write, by what the jobs of its entry may do and
+/// by which records stand in the chains. The table is that of the exchange, and so is the layout.
+/// Memory is the only reason for an error.
 pub fn permit(
     alloc: Global,
     exchange: &Exchange,

@@ -1,5 +1,6 @@
 -- The machine's run of a job leaves what the job means.
-use Rattle.std.proofs.Common.{◌≡◌, ℕ, ◌+◌, ◌-◌, List, [], length, replicate, Some, refl, sym, ap, ◌∙◌, subst}
+use Rattle.std.proofs.Common.{◌≡◌, ℕ, ◌+◌, ◌-◌, List, [], length, replicate, Some, refl, sym, ap}
+use Rattle.std.proofs.Common.{◌∙◌, subst}
 use Rattle.std.specs.Prelude.{slice_get, is_some}
 use Rattle.job_types.specs.declared.job.JobStart.{JobStart}
 use Rattle.machine_code.specs.declared.op.Op.{Op}
@@ -13,7 +14,8 @@ use Rattle.machine_meaning.specs.Private.{fresh}
 use Rattle.machine_meaning.specs.Faithful.{Ends, Means, begun}
 use Rattle.stmt_code.proofs.Setting.{Setting}
 use Rattle.stmt_code.proofs.At.{At}
-use Rattle.stmt_code.proofs.Same.{AllSmall, append_small, none_small, zeros_small, zeros_length, blank_temps, Same, Sim, alive, heads, ended}
+use Rattle.stmt_code.proofs.Same.{AllSmall, append_small, none_small, zeros_small, zeros_length}
+use Rattle.stmt_code.proofs.Same.{blank_temps, Same, Sim, alive, heads, ended}
 use Rattle.stmt_code.proofs.Values.{Laid}
 use Rattle.stmt_code.proofs.Steps.{run_sim}
 use Rattle.source_meaning.proofs.Budget.{job_over}
@@ -25,7 +27,8 @@ pub record RunsFrom (x : Exchange) (code : List Op) (address : ℕ) (start : Job
   pub means : Means (job x start store) end
 
 module _ {g : Setting} where
-  begins_same : (start : JobStart) (store : List ℕ) (address : ℕ) → AllSmall start.job.values → AllSmall store → Same g [] (begins g.exchange start store) (begun (fresh address start) store)
+  begins_same : (start : JobStart) (store : List ℕ) (address : ℕ) → AllSmall start.job.values → AllSmall store
+      → Same g [] (begins g.exchange start store) (begun (fresh address start) store)
   begins_same start store address small_values small_store = record {
     own = refl;
     world = refl;
@@ -41,20 +44,29 @@ module _ {g : Setting} where
     going = refl;
   }
 
-  begins_at : (start : JobStart) (store : List ℕ) (e : Entry) (locals : List ℕ) → slice_get g.exchange.entries start.job.entry ≡ Some e → Laid g → At g (begins g.exchange start store).block locals 0 (begins g.exchange start store).todo (g.table.enter e.block e.signal)
+  begins_at : (start : JobStart) (store : List ℕ) (e : Entry) (locals : List ℕ)
+      → slice_get g.exchange.entries start.job.entry ≡ Some e → Laid g
+      → At g (begins g.exchange start store).block locals 0 (begins g.exchange start store).todo
+      (g.table.enter e.block e.signal)
   begins_at start store e locals there laid =
       subst (λ o. At g (place_of o) locals 0 (todo_of g.exchange o) (g.table.enter e.block e.signal)) (sym there) (laid.enters e.block e.signal locals)
 
-  told : {c : Config} {m : Machine} (s : Sim g c m) → (m.run.own.sends ≡ c.own.sends) × (m.run.own.chain ≡ c.own.chain) × (m.world ≡ c.world) × (m.run.over ≡ c.over)
+  told : {c : Config} {m : Machine} (s : Sim g c m)
+      → (m.run.own.sends ≡ c.own.sends) × (m.run.own.chain ≡ c.own.chain) × (m.world ≡ c.world) × (m.run.over ≡ c.over)
   told (alive s at) = (ap (λ o. o.sends) s.own, ap (λ o. o.chain) s.own, s.world, s.runs ∙ sym s.going)
   told (heads s at) = (ap (λ o. o.sends) s.own, ap (λ o. o.chain) s.own, s.world, s.runs ∙ sym s.going)
   told (ended e f own w) = (ap (λ o. o.sends) own, ap (λ o. o.chain) own, w, f ∙ sym e)
 
   -- from the address of the job's entry
-  pub job_runs : Laid g → (start : JobStart) (store : List ℕ) (e : Entry) → slice_get g.exchange.entries start.job.entry ≡ Some e → AllSmall start.job.values → AllSmall store → RunsFrom g.exchange g.code (g.table.enter e.block e.signal) start store
+  pub job_runs : Laid g → (start : JobStart) (store : List ℕ) (e : Entry)
+      → slice_get g.exchange.entries start.job.entry ≡ Some e → AllSmall start.job.values → AllSmall store
+      → RunsFrom g.exchange g.code (g.table.enter e.block e.signal) start store
   unfolding job
   job_runs laid start store e there small_values small_store =
-      let sim : Sim g (begins g.exchange start store) (begun (fresh (g.table.enter e.block e.signal) start) store) = alive (begins_same start store (g.table.enter e.block e.signal) small_values small_store) (begins_at start store e (replicate 50 0) there laid) in
+      let sim : Sim g (begins g.exchange start store)
+      (begun (fresh (g.table.enter e.block e.signal) start) store) = alive
+      (begins_same start store (g.table.enter e.block e.signal) small_values small_store)
+      (begins_at start store e (replicate 50 0) there laid) in
       let f = run_sim laid (budget + 1) (begins g.exchange start store) (begun (fresh (g.table.enter e.block e.signal) start) store) sim in
       let t = told f.is in
       let o = job_over g.exchange start store in

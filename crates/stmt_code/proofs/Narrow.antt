@@ -1,5 +1,7 @@
--- Where the numbers of an instruction are of 32 bits, each of its operands is in its range: what all kinds of statement need.
-use Rattle.std.proofs.Common.{◌≡◌, ℕ, zero, suc, ◌+◌, ◌*◌, ◌<◌, ◌≤◌, ◌^◌, Bool, true, false, List, [], ◌∷◌, ◌++◌, length, Some, refl, sym, subst, arith, if◌then◌else◌}
+-- Where the numbers of an instruction are of 32 bits, each of its operands is in its range: what
+-- all kinds of statement need.
+use Rattle.std.proofs.Common.{◌≡◌, ℕ, zero, suc, ◌+◌, ◌*◌, ◌<◌, ◌≤◌, ◌^◌, Bool, true, false, List}
+use Rattle.std.proofs.Common.{[], ◌∷◌, ◌++◌, length, Some, refl, sym, subst, arith, if◌then◌else◌}
 use Rattle.std.specs.Prelude.{slice_get, nat_lt}
 use Rattle.std.specs.List.{AllByRecursion}
 use Rattle.machine_code.specs.declared.op.Op.{Op}
@@ -12,7 +14,8 @@ use Rattle.exchange_model.specs.declared.block.Variable.{Variable}
 use Rattle.exchange_model.specs.declared.expr.Expr.{Expr}
 use Rattle.exchange_model.specs.declared.expr.Cond.{Cond}
 use Rattle.exchange_model.specs.declared.expr.Rel.{Rel}
-use Rattle.exchange_model.specs.declared.expr.Rel.TheVariants.{Equal, Unequal, Below, AtMost, Above, AtLeast}
+use Rattle.exchange_model.specs.declared.expr.Rel.TheVariants.{Equal, Unequal, Below, AtMost, Above}
+use Rattle.exchange_model.specs.declared.expr.Rel.TheVariants.{AtLeast}
 use Rattle.exchange_model.specs.Cells.{Placed, record_cells}
 use Rattle.exchange_model.specs.Inside.{bracket_depth, cond_exprs}
 use Rattle.exchange_model.specs.Fits.{ExprFits, ExprsFit}
@@ -98,21 +101,28 @@ module _ (x : Exchange) (kept : IsExchange x) (few_files : length (files_of x) �
   }
 
   -- the code of an expression in one of the first two registers, and of a condition
-  pub expr_narrow : (t : Table) (b r : ℕ) (k : Block) (e : Expr) → slice_get x.blocks b ≡ Some k → IsLimited (scope_of x b k) → r ≤ 1 → ExprFits (scope_of x b k) e → bracket_depth e ≤ 6 → AllNarrow (expr_code e (places_of x t b).site r)
+  pub expr_narrow : (t : Table) (b r : ℕ) (k : Block) (e : Expr) → slice_get x.blocks b ≡ Some k
+      → IsLimited (scope_of x b k) → r ≤ 1 → ExprFits (scope_of x b k) e → bracket_depth e ≤ 6
+      → AllNarrow (expr_code e (places_of x t b).site r)
   expr_narrow t b r k e there few le fits shallow =
       let site = (places_of x t b).site in
       fit_narrow (expr_code e site r) (expr_ops_fit (scope_of x b k) site (site_is t b k there few) e r fits (omega (arith, le, shallow)))
 
-  pub cond_narrow : (t : Table) (b : ℕ) (k : Block) (c : Cond) → slice_get x.blocks b ≡ Some k → IsLimited (scope_of x b k) → ExprsFit (scope_of x b k) (cond_exprs c) → AllNarrow (cond_code c (places_of x t b).site)
+  pub cond_narrow : (t : Table) (b : ℕ) (k : Block) (c : Cond) → slice_get x.blocks b ≡ Some k
+      → IsLimited (scope_of x b k) → ExprsFit (scope_of x b k) (cond_exprs c)
+      → AllNarrow (cond_code c (places_of x t b).site)
   cond_narrow t b k c there few fits =
       let site = (places_of x t b).site in
       fit_narrow (cond_code c site) (cond_ops_fit (scope_of x b k) site (site_is t b k there few) c fits)
 
-  pub values_narrow : (t : Table) (b r : ℕ) (k : Block) (es : List Expr) → slice_get x.blocks b ≡ Some k → IsLimited (scope_of x b k) → r ≤ 1 → AllByRecursion (ExprFits (scope_of x b k)) es → AllByRecursion (λ e. bracket_depth e ≤ 6) es → AllNarrow (values_code es (places_of x t b).site r)
+  pub values_narrow : (t : Table) (b r : ℕ) (k : Block) (es : List Expr) → slice_get x.blocks b ≡ Some k
+      → IsLimited (scope_of x b k) → r ≤ 1 → AllByRecursion (ExprFits (scope_of x b k)) es
+      → AllByRecursion (λ e. bracket_depth e ≤ 6) es → AllNarrow (values_code es (places_of x t b).site r)
   values_narrow t b r k [] there few le fits shallow = tt
   values_narrow t b r k (e ∷ es) there few le fits shallow =
       let site = (places_of x t b).site in
-      narrow_on (expr_code e site r) _ (expr_narrow t b r k e there few le fits.0 shallow.0) (λ n. omega arith, values_narrow t b r k es there few le fits.1 shallow.1)
+      narrow_on (expr_code e site r) _ (expr_narrow t b r k e there few le fits.0 shallow.0)
+      (λ n. omega arith, values_narrow t b r k es there few le fits.1 shallow.1)
 
   -- widths of variables and fields
   width_of : (v : Variable) → VariableFits v → IsWidth v.width
@@ -121,7 +131,9 @@ module _ (x : Exchange) (kept : IsExchange x) (few_files : length (files_of x) �
   pub variable_width_fits : (b v : ℕ) (k : Block) → slice_get x.blocks b ≡ Some k → v < length k.variables → IsWidth (variable_width x b v)
   variable_width_fits b v k there lt =
       let w = some_at k.variables v lt in
-      let inner : IsWidth (option_map_or (λ (e : Variable). e.width) (slice_get k.variables v) 0) = subst (λ o. IsWidth (option_map_or (λ (e : Variable). e.width) o 0)) (sym w.1) (width_of w.0 (variable_kept x kept b v k w.0 there w.1)) in
+      let inner : IsWidth (option_map_or (λ (e : Variable). e.width) (slice_get k.variables v) 0) = subst
+      (λ o. IsWidth (option_map_or (λ (e : Variable). e.width) o 0)) (sym w.1)
+      (width_of w.0 (variable_kept x kept b v k w.0 there w.1)) in
       subst (λ o. IsWidth (option_map_or (λ (k : Block). option_map_or (λ (e : Variable). e.width) (slice_get k.variables v) 0) o 0)) (sym there) inner
 
   pub field_width_fits : (file field : ℕ) (p : Placed) → slice_get (files_of x) file ≡ Some p → field < length p.file.fields → IsWidth (field_width p field)

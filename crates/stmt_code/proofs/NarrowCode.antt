@@ -1,5 +1,6 @@
 -- The whole code of an exchange has its operands in their ranges, where the numbers are of 32 bits.
-use Rattle.std.proofs.Common.{◌≡◌, ℕ, zero, suc, ◌+◌, ◌≤◌, ◌^◌, List, [], ◌∷◌, length, map, sym, ap, ◌∙◌, subst, arith}
+use Rattle.std.proofs.Common.{◌≡◌, ℕ, zero, suc, ◌+◌, ◌≤◌, ◌^◌, List, [], ◌∷◌, length, map, sym, ap}
+use Rattle.std.proofs.Common.{◌∙◌, subst, arith}
 use Rattle.std.specs.Prelude.{All}
 use Rattle.std.proofs.lemmas.List.Elements.{All-from_recursion}
 use Rattle.machine_code.specs.declared.op.Op.{Op}
@@ -7,17 +8,20 @@ use Rattle.machine_code.specs.Operands.{OpFits}
 use Rattle.exchange_model.specs.declared.exchange.Exchange.{Exchange}
 use Rattle.exchange_model.specs.declared.stmt.Stmt.{Stmt, roll-Stmt, map-Stmt}
 use Rattle.exchange_model.specs.declared.stmt.When.{roll-When, map-When, out-roll-When}
-use Rattle.exchange_model.specs.declared.stmt.StmtKind.{StmtKind, roll-StmtKind, ind-StmtKind, out-roll-StmtKind}
+use Rattle.exchange_model.specs.declared.stmt.StmtKind.{StmtKind, roll-StmtKind, ind-StmtKind}
+use Rattle.exchange_model.specs.declared.stmt.StmtKind.{out-roll-StmtKind}
 use Rattle.exchange_model.specs.Kept.{IsExchange}
 use Rattle.source_meaning.specs.Config.{files_of, body_of}
 use Rattle.stmt_code.specs.Numbers.{AreNumbers}
-use Rattle.stmt_code.specs.StmtCode.{codes, opened, stmt_code, kind_code-out, stmt_code-kind, when_code-out}
+use Rattle.stmt_code.specs.StmtCode.{codes, opened, stmt_code, kind_code-out, stmt_code-kind}
+use Rattle.stmt_code.specs.StmtCode.{when_code-out}
 use Rattle.stmt_code.specs.Whole.{Table, places_of, code_upto, table_of, whole_code}
 use Rattle.stmt_code.specs.Within.{ListIn, LayerIn}
 use Rattle.stmt_code.proofs.Setting.{first_in, others_in}
 use Rattle.stmt_code.proofs.Texts.{from_in}
 use Rattle.stmt_code.proofs.Narrow.{Narrow, AllNarrow, narrow_on}
-use Rattle.stmt_code.proofs.NarrowKinds.{LayerNarrow, KindNarrow, StmtNarrow, WhenNarrow, list_narrow, layer_narrow}
+use Rattle.stmt_code.proofs.NarrowKinds.{LayerNarrow, KindNarrow, StmtNarrow, WhenNarrow}
+use Rattle.stmt_code.proofs.NarrowKinds.{list_narrow, layer_narrow}
 
 module _ (x : Exchange) (kept : IsExchange x) (few_files : length (files_of x) ≤ 2 ^ 32) where
   kind_narrow : (k : StmtKind) → KindNarrow x kept few_files k
@@ -49,7 +53,8 @@ module _ (x : Exchange) (kept : IsExchange x) (few_files : length (files_of x) �
   upto_narrow t (suc n) le =
       let a = length (code_upto x t n) in
       narrow_on (code_upto x t n) _ (upto_narrow t n (omega arith))
-      (narrow_on (codes (map stmt_code (body_of x n)) (places_of x t n) 0 a) _ (stmts_narrow (body_of x n) t n 0 a (from_in x n 0 kept (omega arith))) (λ n. tt, tt))
+      (narrow_on (codes (map stmt_code (body_of x n)) (places_of x t n) 0 a) _
+      (stmts_narrow (body_of x n) t n 0 a (from_in x n 0 kept (omega arith))) (λ n. tt, tt))
 
   pub whole_narrow : AllNarrow (whole_code x)
   unfolding whole_code

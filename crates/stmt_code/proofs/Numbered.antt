@@ -1,4 +1,5 @@
--- Where the numbers of files are below a number, there are no more files than that. And what a loop has shown of each item.
+-- Where the numbers of files are below a number, there are no more files than that. And what a loop
+-- has shown of each item.
 use Rattle.std.proofs.Common.{◌≡◌, ℕ, ◌<◌, ◌≤◌, List, length, Some, take, subst, ◌∙◌, arith, ⊎_elim}
 use Rattle.std.specs.Prelude.{slice_get, All}
 use Rattle.std.proofs.lemmas.Bool.{cases_lt}

@@ -1,5 +1,6 @@
 -- Files of an exchange keep their limits, and a search is told record by record.
-use Rattle.std.proofs.Common.{◌≡◌, ℕ, zero, suc, ◌+◌, Bool, true, false, not, List, [], ◌∷◌, map, Option, Some, None, refl, sym, ap, ◌∙◌, arith, cond, if◌then◌else◌}
+use Rattle.std.proofs.Common.{◌≡◌, ℕ, zero, suc, ◌+◌, Bool, true, false, not, List, [], ◌∷◌, map}
+use Rattle.std.proofs.Common.{Option, Some, None, refl, sym, ap, ◌∙◌, arith, cond, if◌then◌else◌}
 use Rattle.std.specs.Prelude.{slice_get, nat_lt}
 use Rattle.std.specs.List.{prefix_len, range_with_len}
 use Rattle.std.proofs.Math.Dec.{leb-suc-suc}
@@ -49,7 +50,9 @@ found_is test i (suc k) = by_test (test i) (found_is test (i + 1) k)
     n : ℕ
     n = before test (i + 1) k
 
-    by_test : (b : Bool) → found_from test (i + 1) k ≡ cond (nat_lt n k) (Some (i + 1 + n)) None → (if b then Some i else found_from test (i + 1) k) ≡ cond (nat_lt (cond (not b) (1 + n) 0) (suc k)) (Some (i + cond (not b) (1 + n) 0)) None
+    by_test : (b : Bool) → found_from test (i + 1) k ≡ cond (nat_lt n k) (Some (i + 1 + n)) None
+        → (if b then Some i else found_from test (i + 1) k)
+        ≡ cond (nat_lt (cond (not b) (1 + n) 0) (suc k)) (Some (i + cond (not b) (1 + n) 0)) None
     by_test true later = let e : i ≡ i + 0 = omega arith in ap Some e ∙ ap (λ b. cond b (Some (i + 0)) None) (sym (first_lower k))
     by_test false later =
         let e : i + 1 + n ≡ i + (1 + n) = omega arith in
@@ -77,11 +80,18 @@ module _ (test : ℕ → Bool) (load : ℕ → Touch) where
       more true = let e : suc (n + 1) ≡ 1 + n + 1 = omega arith in ap (λ m. map load (range_with_len i m)) e
       more false = refl
 
-      by_test : (b : Bool) → loads_from test load (i + 1) k ≡ map load (range_with_len (i + 1) (cond (nat_lt n k) (n + 1) k)) → load i ∷ (if b then [] else loads_from test load (i + 1) k) ≡ map load (range_with_len i (cond (nat_lt (cond (not b) (1 + n) 0) (suc k)) (cond (not b) (1 + n) 0 + 1) (suc k)))
+      by_test : (b : Bool) → loads_from test load (i + 1) k
+          ≡ map load (range_with_len (i + 1) (cond (nat_lt n k) (n + 1) k))
+          → load i ∷ (if b then [] else loads_from test load (i + 1) k)
+          ≡ map load (range_with_len i (cond (nat_lt (cond (not b) (1 + n) 0) (suc k)) (cond (not b) (1 + n) 0 + 1)
+          (suc k)))
       by_test true later = ap (λ b. map load (range_with_len i (cond b 1 (suc k)))) (sym (first_lower k))
-      by_test false later = ap (λ l. load i ∷ l) later ∙ more (nat_lt n k) ∙ ap (λ b. map load (range_with_len i (cond b (1 + n + 1) (suc k)))) (sym (one_lower n k))
+      by_test false later = ap (λ l. load i ∷ l) later ∙ more (nat_lt n k)
+          ∙ ap (λ b. map load (range_with_len i (cond b (1 + n + 1) (suc k)))) (sym (one_lower n k))
 
-pub record_loads_are : (test : ℕ → Bool) (cell_of : ℕ → ℕ) (size : ℕ) (store : List ℕ) → record_loads cell_of (looked_at (least_record test size) size) store ≡ loads_from test (λ i. load_of store (cell_of i)) 0 size
+pub record_loads_are : (test : ℕ → Bool) (cell_of : ℕ → ℕ) (size : ℕ) (store : List ℕ)
+    → record_loads cell_of (looked_at (least_record test size) size) store
+    ≡ loads_from test (λ i. load_of store (cell_of i)) 0 size
 record_loads_are test cell_of size store =
     let load : ℕ → Touch = λ i. load_of store (cell_of i) in
     let n = before test 0 size in

@@ -1,5 +1,6 @@
 -- The machine has what the job has, and follows it.
-use Rattle.std.proofs.Common.{◌≡◌, ◌≢◌, ℕ, zero, suc, ◌^◌, ◌<◌, ◌≤◌, List, [], ◌∷◌, ◌++◌, length, replicate, Some, None, refl, sym, ap, ◌∙◌, subst, arith, ⊎_elim}
+use Rattle.std.proofs.Common.{◌≡◌, ◌≢◌, ℕ, zero, suc, ◌^◌, ◌<◌, ◌≤◌, List, [], ◌∷◌, ◌++◌, length}
+use Rattle.std.proofs.Common.{replicate, Some, None, refl, sym, ap, ◌∙◌, subst, arith, ⊎_elim}
 use Rattle.std.specs.Prelude.{slice_get, slice_index, slice_set}
 use Rattle.std.proofs.Math.ListN.{length-set}
 use Rattle.std.proofs.lemmas.List.{get_or-set_other, get_or-set_same}
@@ -12,7 +13,8 @@ use Rattle.machine_code.specs.declared.op.Op.{Op}
 use Rattle.source_meaning.specs.Config.{Caller, Config}
 use Rattle.source_meaning.specs.Changes.{fails as c_fails}
 use Rattle.machine_meaning.specs.declared.frame.Frame.{Frame}
-use Rattle.machine_meaning.specs.Machine.{Machine, Goes, here, by_op, HasRoom, machine_step, made_one, fails}
+use Rattle.machine_meaning.specs.Machine.{Machine, Goes, here, by_op, HasRoom, machine_step}
+use Rattle.machine_meaning.specs.Machine.{made_one, fails}
 use Rattle.expr_code.proofs.Runs.{goes_on}
 use Rattle.expr_code.specs.Runs.{HasOp}
 use Rattle.stmt_code.proofs.Setting.{Setting}
@@ -59,7 +61,8 @@ pub record Same (g : Setting) (vs : List ℕ) (c : Config) (m : Machine) : Type 
   pub runs : m.run.over ≡ None
   pub going : c.over ≡ None
 
--- the machine stands where the job goes on, or at the head of a loop of which a turn begins, or both are over
+-- the machine stands where the job goes on, or at the head of a loop of which a turn begins, or
+-- both are over
 pub data Sim (g : Setting) (c : Config) (m : Machine) : Type 0 where
   alive : {d : ℕ} → Same g [] c m → At g c.block m.run.locals d c.todo m.run.pc → Sim g c m
   heads : Same g [] c m → AtHead g c.block m.run.regs m.run.locals c.todo m.run.pc → Sim g c m
@@ -78,17 +81,22 @@ pub by_way : {g : Setting} {P : Machine → Type 0} {m n : Machine} → Goes g.c
 by_way way f = record { end = f.end; goes = goes_on way f.goes; is = f.is }
 
 -- one instruction
-pub by_step : {g : Setting} {P : Machine → Type 0} {m : Machine} {a : ℕ} (i : Op) (n : Machine) → m.run.over ≡ None → m.run.pc ≡ a → HasOp g.code a i → HasRoom i m.run → machine_step i m ≡ n → Comes g P n → Comes g P m
-by_step {g = g} i n runs at has room e f = by_way (by_op i runs (ap (slice_get g.code) at ∙ has.is) (has.fits, room) (subst (λ k. Goes g.code k n) (sym e) here)) f
+pub by_step : {g : Setting} {P : Machine → Type 0} {m : Machine} {a : ℕ} (i : Op) (n : Machine) → m.run.over ≡ None
+    → m.run.pc ≡ a → HasOp g.code a i → HasRoom i m.run → machine_step i m ≡ n → Comes g P n → Comes g P m
+by_step {g = g} i n runs at has room e f = by_way
+    (by_op i runs (ap (slice_get g.code) at ∙ has.is) (has.fits, room) (subst (λ k. Goes g.code k n) (sym e) here)) f
 
 pub stays : {g : Setting} {c : Config} {m : Machine} {d : ℕ} → Same g [] c m → At g c.block m.run.locals d c.todo m.run.pc → Follows g c m
 stays same at = record { end = _; goes = here; is = alive same at }
 
-pub is_over : {g : Setting} {c : Config} {m : Machine} {o : Outcome} → c.over ≡ Some o → m.run.over ≡ Some o → m.run.own ≡ c.own → m.world ≡ c.world → Follows g c m
+pub is_over : {g : Setting} {c : Config} {m : Machine} {o : Outcome} → c.over ≡ Some o → m.run.over ≡ Some o
+    → m.run.own ≡ c.own → m.world ≡ c.world → Follows g c m
 is_over e f w v = record { end = _; goes = here; is = ended e f w v }
 
 -- an instruction that ends the job by a fault
-pub faults : {g : Setting} {vs : List ℕ} {c : Config} {m : Machine} {a : ℕ} (i : Op) (f : Fault) → Same g vs c m → m.run.pc ≡ a → HasOp g.code a i → HasRoom i m.run → machine_step i m ≡ record { run = fails f (made_one m.run); world = m.world } → Follows g (c_fails f c) m
+pub faults : {g : Setting} {vs : List ℕ} {c : Config} {m : Machine} {a : ℕ} (i : Op) (f : Fault) → Same g vs c m
+    → m.run.pc ≡ a → HasOp g.code a i → HasRoom i m.run
+    → machine_step i m ≡ record { run = fails f (made_one m.run); world = m.world } → Follows g (c_fails f c) m
 faults {m = m} i f s at has room e =
     by_step i (record { run = fails f (made_one m.run); world = m.world }) s.runs at has room e
     (is_over refl (ap (λ o. Some (Faulted f o.point)) s.own) s.own s.world)
@@ -129,7 +137,9 @@ pub temps_set : {temps locals : List ℕ} (t v : ℕ) → t < 24 → v < 2 ^ 32 
 temps_set {temps = temps} {locals = locals} t v lt small h = record {
   same = λ i low.
       ⊎_elim
-      (λ (e : i ≡ t). subst (λ j. slice_index (slice_set locals t v) j ≡ slice_index (slice_set temps t v) j) (sym e) (get_or-set_same locals t v 0 (omega (arith, h.wide)) ∙ sym (get_or-set_same temps t v 0 (omega (arith, h.size)))))
+      (λ (e : i ≡ t). subst (λ j. slice_index (slice_set locals t v) j ≡ slice_index (slice_set temps t v) j) (sym e)
+      (get_or-set_same locals t v 0 (omega (arith, h.wide))
+      ∙ sym (get_or-set_same temps t v 0 (omega (arith, h.size)))))
       (λ (ne : i ≢ t). get_or-set_other locals t i v 0 ne ∙ h.same i low ∙ sym (get_or-set_other temps t i v 0 ne))
       (cases_eq i t);
   size = length-set temps t v ∙ h.size;

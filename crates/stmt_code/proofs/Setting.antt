@@ -66,10 +66,15 @@ body_in h = record { block = h.block; there = h.there; limited = h.limited; fits
 pub otherwise_in : {x : Exchange} {b d : ℕ} {e : Expr} {whens : List When} {ss : List Stmt} → LayerIn x b d (Case e whens ss) → ListIn x b d ss
 otherwise_in h = record { block = h.block; there = h.there; limited = h.limited; fits = h.parts.1; shallow = omega (arith, h.shallow) }
 
-choices_shallow : (x : Exchange) (b d : ℕ) (k : Block) (whens : List When) → slice_get x.blocks b ≡ Some k → IsLimited (scope_of x b k) → AllByRecursion (λ w. StmtsFit (scope_of x b k) (out-When w).body) whens → most (map when_depth whens) + d ≤ 12 → ChoicesIn x b d whens
+choices_shallow : (x : Exchange) (b d : ℕ) (k : Block) (whens : List When) → slice_get x.blocks b ≡ Some k
+    → IsLimited (scope_of x b k) → AllByRecursion (λ w. StmtsFit (scope_of x b k) (out-When w).body) whens
+    → most (map when_depth whens) + d ≤ 12 → ChoicesIn x b d whens
 choices_shallow x b d k [] there few fits le = tt
-choices_shallow x b d k (w ∷ ws) there few fits le =
-    (record { block = k; there = there; limited = few; fits = fits.0; shallow = omega (arith, le) }, choices_shallow x b d k ws there few fits.1 (omega (arith, le)))
+choices_shallow x b d k (w ∷ ws) there few fits le = (
+  record { block = k; there = there; limited = few; fits = fits.0; shallow = omega (arith, le) },
+  choices_shallow x b
+      d k ws there few fits.1 (omega (arith, le)),
+)
 
 pub choices_in : {x : Exchange} {b d : ℕ} {e : Expr} {whens : List When} {ss : List Stmt} → LayerIn x b d (Case e whens ss) → ChoicesIn x b d whens
 choices_in {x = x} {b = b} {d = d} {whens = whens} h = choices_shallow x b d h.block whens h.there h.limited h.parts.0 (omega (arith, h.shallow))

@@ -1,5 +1,7 @@
 -- A statement is counted, and its expressions are computed, in the job and in the machine.
-use Rattle.std.proofs.Common.{◌≡◌, ℕ, ◌+◌, ◌^◌, ◌<◌, ◌≤◌, Bool, true, false, List, [], ◌∷◌, ◌++◌, length, Some, refl, sym, ap, ◌∙◌, subst, arith, length-append, if◌then◌else◌}
+use Rattle.std.proofs.Common.{◌≡◌, ℕ, ◌+◌, ◌^◌, ◌<◌, ◌≤◌, Bool, true, false, List, [], ◌∷◌, ◌++◌}
+use Rattle.std.proofs.Common.{length, Some, refl, sym, ap, ◌∙◌, subst, arith, length-append}
+use Rattle.std.proofs.Common.{if◌then◌else◌}
 use Rattle.std.specs.Prelude.{nat_lt}
 use Rattle.std.specs.List.{AllByRecursion}
 use Rattle.job_types.specs.declared.fault.Fault.TheVariants.{Budget}
@@ -32,7 +34,8 @@ use Rattle.stmt_code.specs.StmtCode.{values_code}
 use Rattle.stmt_code.specs.Within.{LayerIn}
 use Rattle.stmt_code.proofs.Setting.{Setting, places}
 use Rattle.stmt_code.proofs.At.{SameLoops, At}
-use Rattle.stmt_code.proofs.Same.{append_small, one_small, Same, Waits, Follows, by_way, by_step, is_over}
+use Rattle.stmt_code.proofs.Same.{append_small, one_small, Same, Waits, Follows, by_way, by_step}
+use Rattle.stmt_code.proofs.Same.{is_over}
 use Rattle.stmt_code.proofs.Instr.{Kept, same_loops, loops_on, arg}
 
 -- the exchange keeps what exchanges keep, and texts and signals stand at their addresses
@@ -59,7 +62,8 @@ expr_in {x = x} {b = b} e es same h =
     let fits = subst (ExprsFit (scope_of x b h.block)) same h.fits.exprs in
     record { block = h.block; limited = h.limited; fits = fits.each.0; shallow = fits.shallow.0 }
 
-pub second_in : {x : Exchange} {b d : ℕ} {l : StmtKind-F StmtKind Stmt When} (e f : Expr) (es : List Expr) → own_exprs l ≡ e ∷ f ∷ es → LayerIn x b d l → ExprIn x b f
+pub second_in : {x : Exchange} {b d : ℕ} {l : StmtKind-F StmtKind Stmt When} (e f : Expr) (es : List Expr)
+    → own_exprs l ≡ e ∷ f ∷ es → LayerIn x b d l → ExprIn x b f
 second_in {x = x} {b = b} e f es same h =
     let fits = subst (ExprsFit (scope_of x b h.block)) same h.fits.exprs in
     record { block = h.block; limited = h.limited; fits = fits.each.1.0; shallow = fits.shallow.1.0 }
@@ -67,7 +71,9 @@ second_in {x = x} {b = b} e f es same h =
 pub cond_in : {x : Exchange} {b d : ℕ} {l : StmtKind-F StmtKind Stmt When} (c : Cond) → own_exprs l ≡ cond_exprs c → LayerIn x b d l → CondIn x b c
 cond_in {x = x} {b = b} c same h = record { block = h.block; limited = h.limited; fits = subst (ExprsFit (scope_of x b h.block)) same h.fits.exprs }
 
-exprs_of : (x : Exchange) (b : ℕ) (k : Block) (es : List Expr) → IsLimited (scope_of x b k) → AllByRecursion (ExprFits (scope_of x b k)) es → AllByRecursion (λ e. bracket_depth e ≤ 6) es → AllByRecursion (ExprIn x b) es
+exprs_of : (x : Exchange) (b : ℕ) (k : Block) (es : List Expr) → IsLimited (scope_of x b k)
+    → AllByRecursion (ExprFits (scope_of x b k)) es → AllByRecursion (λ e. bracket_depth e ≤ 6) es
+    → AllByRecursion (ExprIn x b) es
 exprs_of x b k [] few each shallow = tt
 exprs_of x b k (e ∷ es) few each shallow = (record { block = k; limited = few; fits = each.0; shallow = shallow.0 }, exprs_of x b k es few each.1 shallow.1)
 
@@ -83,20 +89,44 @@ pub record Valued (r v : ℕ) (m n : Machine) : Type 0 where
 
 module _ {g : Setting} where
   -- the statement is counted
-  count_cases : (b : Bool) (c : Config) (m : Machine) (p a : ℕ) (go : Config → Config) → nat_lt c.own.count budget ≡ b → Same g [] c m → m.run.pc ≡ a → HasOp g.code a (op.Stmt p)
+  count_cases : (b : Bool) (c : Config) (m : Machine) (p a : ℕ) (go : Config → Config) → nat_lt c.own.count budget ≡ b
+      → Same g [] c m → m.run.pc ≡ a → HasOp g.code a (op.Stmt p)
       → ((n : Machine) → Same g [] (record c { own = counted p c.own }) n → n.run.pc ≡ a + 1 → Kept m n → Follows g (go (record c { own = counted p c.own })) n)
       → Follows g (if b then go (record c { own = counted p c.own }) else c_fails Budget (record c { own = counted p c.own })) m
   count_cases true c m p a go e s at has k =
       let n : Machine = record { run = next (record (made_one m.run) { own = counted p m.run.own }); world = m.world } in
       let is : machine_step (op.Stmt p) m ≡ n =
-      ap (λ b. record { run = (if b then next (record (made_one m.run) { own = counted p m.run.own }) else fails Budget (record (made_one m.run) { own = counted p m.run.own })); world = m.world }) (ap (λ o. nat_lt o.count budget) s.own ∙ e) in
-      let s' : Same g [] (record c { own = counted p c.own }) n = record { own = ap (counted p) s.own; world = s.world; temps = s.temps; regs = s.regs; small_store = s.small_store; small_given = s.small_given; small_answers = s.small_answers; callers = s.callers; out = s.out; small_out = s.small_out; runs = s.runs; going = s.going } in
+      ap (λ b. record {
+        run = (if b then next (record (made_one m.run) { own = counted p m.run.own })
+            else fails Budget (record (made_one m.run) { own = counted p m.run.own }));
+        world = m.world;
+      })
+      (ap (λ o. nat_lt o.count budget) s.own ∙ e) in
+      let s' : Same g [] (record c { own = counted p c.own }) n = record {
+        own = ap (counted p) s.own;
+        world = s.world;
+        temps = s.temps;
+        regs = s.regs;
+        small_store = s.small_store;
+        small_given = s.small_given;
+        small_answers = s.small_answers;
+        callers = s.callers;
+        out = s.out;
+        small_out = s.small_out;
+        runs = s.runs;
+        going = s.going;
+      } in
       by_step (op.Stmt p) n s.runs at has tt is
       (k n s' (ap (λ i. i + 1) at) record { regs = λ k. refl; loops = same_loops m.run.locals })
   count_cases false c m p a go e s at has k =
       let n : Machine = record { run = fails Budget (record (made_one m.run) { own = counted p m.run.own }); world = m.world } in
       let is : machine_step (op.Stmt p) m ≡ n =
-      ap (λ b. record { run = (if b then next (record (made_one m.run) { own = counted p m.run.own }) else fails Budget (record (made_one m.run) { own = counted p m.run.own })); world = m.world }) (ap (λ o. nat_lt o.count budget) s.own ∙ e) in
+      ap (λ b. record {
+        run = (if b then next (record (made_one m.run) { own = counted p m.run.own })
+            else fails Budget (record (made_one m.run) { own = counted p m.run.own }));
+        world = m.world;
+      })
+      (ap (λ o. nat_lt o.count budget) s.own ∙ e) in
       by_step (op.Stmt p) n s.runs at has tt is (is_over refl refl (ap (counted p) s.own) s.world)
 
   pub count_sim : {c : Config} {m : Machine} {p a : ℕ} (go : Config → Config) → Same g [] c m → m.run.pc ≡ a → HasOp g.code a (op.Stmt p)
@@ -104,11 +134,17 @@ module _ {g : Setting} where
       → Follows g (count p c go) m
   count_sim {c = c} {m = m} {p = p} {a = a} go s at has k = count_cases (nat_lt c.own.count budget) c m p a go refl s at has k
 
-  same_on : {vs : List ℕ} {c : Config} {m n : Machine} {a r l : ℕ} {loads : List Touch} → 48 ≤ l → Calc g.code m n a loads r l → Same g vs c m → Same g vs (record c { world = seen loads c.world }) n
+  same_on : {vs : List ℕ} {c : Config} {m n : Machine} {a r l : ℕ} {loads : List Touch} → 48 ≤ l
+      → Calc g.code m n a loads r l → Same g vs c m → Same g vs (record c { world = seen loads c.world }) n
   same_on {c = c} {loads = loads} le q s = record {
     own = q.own ∙ s.own;
     world = q.world ∙ ap (seen loads) s.world;
-    temps = record { same = λ t lt. q.locals t (omega arith) ∙ s.temps.same t lt; size = s.temps.size; wide = q.length_locals ∙ s.temps.wide; small = s.temps.small };
+    temps = record {
+      same = λ t lt. q.locals t (omega arith) ∙ s.temps.same t lt;
+      size = s.temps.size;
+      wide = q.length_locals ∙ s.temps.wide;
+      small = s.temps.small;
+    };
     regs = q.registers ∙ s.regs;
     small_store = s.small_store;
     small_given = s.small_given;
@@ -120,8 +156,10 @@ module _ {g : Setting} where
     going = s.going;
   }
 
-  pub got_sim : {vs : List ℕ} {got : Got} {m : Machine} {a r l : ℕ} (c : Config) (go : ℕ → Config → Config) → 48 ≤ l → Same g vs c m → Computes g.code m a r l got
-      → ((n : Machine) (v : ℕ) (loads : List Touch) → Same g vs (record c { world = seen loads c.world }) n → n.run.pc ≡ a → Valued r v m n → Follows g (go v (record c { world = seen loads c.world })) n)
+  pub got_sim : {vs : List ℕ} {got : Got} {m : Machine} {a r l : ℕ} (c : Config) (go : ℕ → Config → Config) → 48 ≤ l
+      → Same g vs c m → Computes g.code m a r l got
+      → ((n : Machine) (v : ℕ) (loads : List Touch) → Same g vs (record c { world = seen loads c.world }) n
+      → n.run.pc ≡ a → Valued r v m n → Follows g (go v (record c { world = seen loads c.world })) n)
       → Follows g (on_value got c go) m
   got_sim c go le s (gives {n = n} {loads = loads} {v = v} q e lt) k =
       by_way q.goes (k n v loads (same_on le q s) q.at record { is = e; small = lt; low = q.low; loops = λ i low high. q.locals i (omega arith) })
@@ -129,25 +167,50 @@ module _ {g : Setting} where
       by_way q.goes (is_over refl (q.over ∙ ap (λ o. Some (Faulted f o.point)) s.own) (q.own ∙ s.own) (q.world ∙ ap (seen loads) s.world))
 
   pub agrees : {vs : List ℕ} {c : Config} {m : Machine} → Same g vs c m → Agrees m (sight g.exchange c)
-  agrees s = record { store = ap (λ w. w.store) s.world; temps = s.temps.same; chain = ap (λ o. o.chain) s.own; small_store = s.small_store; small_temps = s.temps.small; registers = s.regs; locals = s.temps.wide; runs = s.runs }
+  agrees s = record {
+    store = ap (λ w. w.store) s.world;
+    temps = s.temps.same;
+    chain = ap (λ o. o.chain) s.own;
+    small_store = s.small_store;
+    small_temps = s.temps.small;
+    registers = s.regs;
+    locals = s.temps.wide;
+    runs = s.runs;
+  }
 
   -- an expression whose value is used
-  pub value_sim : {vs : List ℕ} {c : Config} {m : Machine} {a : ℕ} (r : ℕ) (e : Expr) (go : ℕ → Config → Config) → r ≤ 1 → ExprIn g.exchange c.block e → Same g vs c m → m.run.pc ≡ a → HasAt g.code a (expr_code e (places g c.block).site r)
-      → ((n : Machine) (v : ℕ) (loads : List Touch) → Same g vs (record c { world = seen loads c.world }) n → n.run.pc ≡ a + length (expr_code e (places g c.block).site r) → Valued r v m n → Follows g (go v (record c { world = seen loads c.world })) n)
+  pub value_sim : {vs : List ℕ} {c : Config} {m : Machine} {a : ℕ} (r : ℕ) (e : Expr) (go : ℕ → Config → Config) → r ≤ 1
+      → ExprIn g.exchange c.block e → Same g vs c m → m.run.pc ≡ a
+      → HasAt g.code a (expr_code e (places g c.block).site r)
+      → ((n : Machine) (v : ℕ) (loads : List Touch) → Same g vs (record c { world = seen loads c.world }) n
+      → n.run.pc ≡ a + length (expr_code e (places g c.block).site r) → Valued r v m n
+      → Follows g (go v (record c { world = seen loads c.world })) n)
       → Follows g (on_value (expr_value e (sight g.exchange c)) c go) m
   value_sim {c = c} {m = m} {a = a} r e go le h s at has k =
-      got_sim c go (omega arith) s (expr_runs g.code (sight g.exchange c) (scope_of g.exchange c.block h.block) e m a r h.limited h.fits (omega (arith, h.shallow)) (agrees s) at has) k
+      got_sim c go (omega arith) s (expr_runs g.code (sight g.exchange c) (scope_of g.exchange c.block h.block) e m a r
+      h.limited h.fits (omega (arith, h.shallow)) (agrees s) at has) k
 
   -- a condition whose value is used
-  pub cond_sim : {vs : List ℕ} {c : Config} {m : Machine} {a : ℕ} (e : Cond) (go : ℕ → Config → Config) → CondIn g.exchange c.block e → Same g vs c m → m.run.pc ≡ a → HasAt g.code a (cond_code e (places g c.block).site)
-      → ((n : Machine) (v : ℕ) (loads : List Touch) → Same g vs (record c { world = seen loads c.world }) n → n.run.pc ≡ a + length (cond_code e (places g c.block).site) → Valued 0 v m n → Follows g (go v (record c { world = seen loads c.world })) n)
+  pub cond_sim : {vs : List ℕ} {c : Config} {m : Machine} {a : ℕ} (e : Cond) (go : ℕ → Config → Config)
+      → CondIn g.exchange c.block e → Same g vs c m → m.run.pc ≡ a
+      → HasAt g.code a (cond_code e (places g c.block).site)
+      → ((n : Machine) (v : ℕ) (loads : List Touch) → Same g vs (record c { world = seen loads c.world }) n
+      → n.run.pc ≡ a + length (cond_code e (places g c.block).site) → Valued 0 v m n
+      → Follows g (go v (record c { world = seen loads c.world })) n)
       → Follows g (on_value (cond_value e (sight g.exchange c)) c go) m
   cond_sim {c = c} {m = m} {a = a} e go h s at has k =
       got_sim c go (omega arith) s (cond_runs g.code (sight g.exchange c) (scope_of g.exchange c.block h.block) e m a h.limited h.fits (agrees s) at has) k
 
-  -- values from left to right become the outgoing ones, by way of a register; those below it are kept
-  pub values_sim : {c : Config} {m : Machine} {a : ℕ} (r : ℕ) (es : List Expr) (vs : List ℕ) (go : List ℕ → Config → Config) → r ≤ 1 → AllByRecursion (ExprIn g.exchange c.block) es → length vs + length es ≤ 8 → Same g vs c m → m.run.pc ≡ a → HasAt g.code a (values_code es (places g c.block).site r)
-      → ((n : Machine) (w : World) (us : List ℕ) → length us ≡ length vs + length es → Same g us (record c { world = w }) n → n.run.pc ≡ a + length (values_code es (places g c.block).site r) → KeepsRegisters r m n → SameLoops 12 n.run.locals m.run.locals → Follows g (go us (record c { world = w })) n)
+  -- values from left to right become the outgoing ones, by way of a register; those below it are
+  -- kept
+  pub values_sim : {c : Config} {m : Machine} {a : ℕ} (r : ℕ) (es : List Expr) (vs : List ℕ)
+      (go : List ℕ → Config → Config) → r ≤ 1 → AllByRecursion (ExprIn g.exchange c.block) es
+      → length vs + length es ≤ 8 → Same g vs c m → m.run.pc ≡ a
+      → HasAt g.code a (values_code es (places g c.block).site r)
+      → ((n : Machine) (w : World) (us : List ℕ) → length us ≡ length vs + length es
+      → Same g us (record c { world = w }) n → n.run.pc ≡ a + length (values_code es (places g c.block).site r)
+      → KeepsRegisters r m n → SameLoops 12 n.run.locals m.run.locals
+      → Follows g (go us (record c { world = w })) n)
       → Follows g (on_values g.exchange es vs c go) m
   values_sim {c = c} {m = m} r [] vs go low h le s at has k = k m c.world vs (omega arith) s (omega (arith, at)) (λ i lt. refl) (same_loops m.run.locals)
   values_sim {c = c} {m = m} {a = a} r (e ∷ es) vs go low h le s at has k =
@@ -159,5 +222,9 @@ module _ {g : Setting} where
       arg v s2 at2 h'.0 (omega (arith, le)) q.is q.small (append_small vs (v ∷ []) s.small_out (one_small v q.small)) (λ n2 s3 at3 q2.
       let few : length (vs ++ v ∷ []) + length es ≤ 8 = omega (arith, le, length-append vs (v ∷ [])) in
       let len : a + length ce + 1 + length more ≡ a + length (ce ++ op.Arg r ∷ more) = omega (arith, length-append ce (op.Arg r ∷ more)) in
-      values_sim {c = record c { world = seen loads c.world }} {m = n2} {a = a + length ce + 1} r es (vs ++ v ∷ []) go low h.1 few s3 at3 h'.1 (λ n3 w us long s4 at4 kept loops.
-      k n3 w us (omega (arith, long, length-append vs (v ∷ []))) s4 (at4 ∙ len) (λ i lt. kept i lt ∙ q2.regs i ∙ q.low i lt) (loops_on n3.run.locals n2.run.locals m.run.locals loops (loops_on n2.run.locals n.run.locals m.run.locals q2.loops q.loops)))))
+      values_sim {c = record c { world = seen loads c.world }} {m = n2} {a = a + length ce + 1} r es (vs ++ v ∷ []) go
+      low h.1 few s3 at3 h'.1 (λ n3 w us long s4 at4 kept loops.
+      k n3 w us (omega (arith, long, length-append vs (v ∷ []))) s4 (at4 ∙ len)
+      (λ i lt. kept i lt ∙ q2.regs i ∙ q.low i lt)
+      (loops_on n3.run.locals n2.run.locals m.run.locals loops
+      (loops_on n2.run.locals n.run.locals m.run.locals q2.loops q.loops)))))

@@ -1,5 +1,6 @@
 -- The code of an exchange is faithful where its texts stand at their addresses.
-use Rattle.std.proofs.Common.{◌≡◌, ℕ, zero, suc, List, [], ◌∷◌, length, map, Some, sym, ap, ◌∙◌, subst, arith}
+use Rattle.std.proofs.Common.{◌≡◌, ℕ, zero, suc, List, [], ◌∷◌, length, map, Some, sym, ap, ◌∙◌}
+use Rattle.std.proofs.Common.{subst, arith}
 use Rattle.std.specs.Prelude.{slice_get, slice_index}
 use Rattle.std.specs.List.{AllByRecursion}
 use Rattle.std.proofs.lemmas.List.{length-map}
@@ -33,11 +34,13 @@ whole_faithful x code kept stands ops_are entries_are = record {
   entries = omega (arith, ap length entries_are, length-map x.entries (λ (e : Entry). enter_at x e.block e.signal));
   runs = λ s start valid fitting.
       let e = some_at x.entries start.job.entry fitting.job.entry in
-      let address = ap (λ (l : List ℕ). slice_index l start.job.entry) entries_are ∙ index_map (λ (e : Entry). enter_at x e.block e.signal) x.entries start.job.entry e.0 e.1 in
+      let address = ap (λ (l : List ℕ). slice_index l start.job.entry) entries_are
+      ∙ index_map (λ (e : Entry). enter_at x e.block e.signal) x.entries start.job.entry e.0 e.1 in
       let r = job_runs (laid x kept stands) start s.store e.0 e.1 (words_small start.job.values fitting.job.words) (valid_words x s kept valid) in
       record {
         end = r.end;
-        ends = subst (λ ops. Ends ops (begun (started code start) s.store) r.end) (sym ops_are) (subst (λ a. Ends (whole_code x) (begun (fresh a start) s.store) r.end) (sym address) r.ends);
+        ends = subst (λ ops. Ends ops (begun (started code start) s.store) r.end) (sym ops_are)
+            (subst (λ a. Ends (whole_code x) (begun (fresh a start) s.store) r.end) (sym address) r.ends);
         means = r.means;
       };
 }

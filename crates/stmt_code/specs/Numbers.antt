@@ -1,7 +1,9 @@
 -- The numbers of 32 bits in an exchange and in a code. In memory they are so by their types.
 use Rattle.std.specs.Prelude.{◌<◌, ℕ, All}
 use Rattle.machine_code.specs.declared.op.Op.{Op}
-use Rattle.machine_code.specs.declared.op.Op.TheVariants.{Stmt, Ldi, Jmp, Jz, Ldw, Stw, Ckp, Own, Ldx, Stx, Chn, Unc, Snd, Dir, Call, Ret, Trf}
+use Rattle.machine_code.specs.declared.op.Op.TheVariants.{Stmt, Ldi, Jmp, Jz, Ldw, Stw, Ckp, Own}
+use Rattle.machine_code.specs.declared.op.Op.TheVariants.{Ldx, Stx, Chn, Unc, Snd, Dir, Call, Ret}
+use Rattle.machine_code.specs.declared.op.Op.TheVariants.{Trf}
 use Rattle.machine_code.specs.Operands.{IsNumber}
 use Rattle.exchange_model.specs.declared.block.Block.{Block}
 use Rattle.exchange_model.specs.declared.block.File.{File}
@@ -13,7 +15,8 @@ IsBelow n f = f.number < n
 abbrev pub AreBelow : ℕ → Block → Type 0
 AreBelow n k = All (IsBelow n) k.files
 
--- those operands of an instruction that are numbers: not registers, locals, places of values, widths, levels and kinds
+-- those operands of an instruction that are numbers: not registers, locals, places of values,
+-- widths, levels and kinds
 abbrev pub AreNumbers : Op → Type 0
 AreNumbers (Stmt p) = IsNumber p
 AreNumbers (Ldi r n) = IsNumber n

@@ -1,8 +1,10 @@
 -- The code of an exchange: its blocks one after the other, and the addresses of labels and ENTERs.
 --
--- How long a statement's code is depends neither on where it stands nor on the addresses in it. So the addresses are told
--- by the code that is made with a table of zeros, and the table then made is right for the code that is made with it.
-use Rattle.std.specs.Prelude.{ℕ, zero, suc, ◌+◌, min, List, [], ◌∷◌, ◌++◌, length, map, take, drop, if◌then◌else◌}
+-- How long a statement's code is depends neither on where it stands nor on the addresses in it. So
+-- the addresses are told by the code that is made with a table of zeros, and the table then made is
+-- right for the code that is made with it.
+use Rattle.std.specs.Prelude.{ℕ, zero, suc, ◌+◌, min, List, [], ◌∷◌, ◌++◌, length, map, take, drop}
+use Rattle.std.specs.Prelude.{if◌then◌else◌}
 use Rattle.machine_code.specs.declared.op.Op.{Op}
 use Rattle.machine_code.specs.declared.op.Op.TheVariants as op
 use Rattle.exchange_model.specs.declared.exchange.Exchange.{Exchange}
@@ -10,7 +12,8 @@ use Rattle.exchange_model.specs.declared.block.Block.{Block}
 use Rattle.exchange_model.specs.declared.entry.Entry.{Entry}
 use Rattle.exchange_model.specs.declared.stmt.Stmt.{Stmt}
 use Rattle.exchange_model.specs.declared.stmt.StmtKind.{out-StmtKind}
-use Rattle.source_meaning.specs.Config.{base_of, files_of, body_of, label_of, enter_place, is_receiver, entry_number}
+use Rattle.source_meaning.specs.Config.{base_of, files_of, body_of, label_of, enter_place}
+use Rattle.source_meaning.specs.Config.{is_receiver, entry_number}
 use Rattle.exchange_model.specs.Kept.{is_enter}
 use Rattle.source_meaning.specs.Changes.{variable_width}
 use Rattle.stmt_code.specs.StmtCode.{Places, codes, stmt_code}
@@ -24,7 +27,8 @@ pub record Table : Type 0 where
 abbrev pub receivers_from : ℕ → ℕ → List Block → List ℕ
 receivers_from b signal [] = []
 receivers_from b signal (k ∷ ks) =
-    (if is_receiver signal k then b ∷ receivers_from (b + 1) signal ks else receivers_from (b + 1) signal ks)
+    (if is_receiver signal k then b ∷ receivers_from (b + 1) signal ks
+    else receivers_from (b + 1) signal ks)
 
 abbrev pub places_of : Exchange → Table → ℕ → Places
 places_of x t b = record {
@@ -55,7 +59,8 @@ start_of x b = length (code_upto x no_table (min b (length x.blocks)))
 
 -- where a place of a block's text stands
 unfoldable pub place_at : Exchange → ℕ → ℕ → ℕ
-place_at x b place = start_of x b + length (codes (map stmt_code (take place (body_of x b))) (places_of x no_table b) 0 (start_of x b))
+place_at x b place = start_of x b + length (codes (map stmt_code (take place (body_of x b)))
+    (places_of x no_table b) 0 (start_of x b))
 
 -- behind the jump of an ENTER, and else where the blocks end
 abbrev pub behind_enter : List Stmt → ℕ → ℕ → ℕ
@@ -63,7 +68,8 @@ behind_enter [] a end = end
 behind_enter (s ∷ rest) a end = (if is_enter (out-StmtKind s.kind) then a + 1 else end)
 
 abbrev pub enter_at : Exchange → ℕ → ℕ → ℕ
-enter_at x b signal = behind_enter (drop (enter_place x b signal) (body_of x b)) (place_at x b (enter_place x b signal)) (start_of x (length x.blocks))
+enter_at x b signal = behind_enter (drop (enter_place x b signal) (body_of x b))
+    (place_at x b (enter_place x b signal)) (start_of x (length x.blocks))
 
 abbrev pub table_of : Exchange → Table
 table_of x = record { label = λ b l. place_at x b (label_of x b l); enter = enter_at x }

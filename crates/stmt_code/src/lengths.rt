@@ -15,5 +15,6 @@ pub const FOUND_LENGTH: u32 = 4;
 /// What goes back to the head of a search.
 pub const AGAIN_LENGTH: u32 = 3;
 
-/// The local of the number of the outermost loop; that of its last number follows, and then those of the next loop.
+/// The local of the number of the outermost loop; that of its last number follows, and then those
+/// of the next loop.
 pub const FIRST_LOOP_LOCAL: u8 = 24;

@@ -7,7 +7,8 @@ use exchange_model::{Exchange, File};
 use machine_code::{Code, Op};
 use plex_num::Seq;
 
-/// Says that an exchange has no more than 2^32 files, since each has its number. It looks at each file once.
+/// Says that an exchange has no more than 2^32 files, since each has its number. It looks at each
+/// file once.
 pub fn files_are_numbered(exchange: &Exchange)
     ensures { length (files_of exchange.now) ≤ 2 ^ 32 }
 {

@@ -1,18 +1,24 @@
 -- The rows of a layout, read for a cell or for a word.
-use Rattle.std.proofs.Common.{◌≡◌, ℕ, zero, suc, ◌+◌, ◌-◌, ◌*◌, ◌/◌, ◌%◌, ◌<◌, ◌≤◌, inl, inr, true, false, List, [], ◌∷◌, length, take, get_or, leb, Some, slice_get, refl, sym, ap, ◌∙◌, subst, arith}
+use Rattle.std.proofs.Common.{◌≡◌, ℕ, zero, suc, ◌+◌, ◌-◌, ◌*◌, ◌/◌, ◌%◌, ◌<◌, ◌≤◌, inl, inr, true}
+use Rattle.std.proofs.Common.{false, List, [], ◌∷◌, length, take, get_or, leb, Some, slice_get}
+use Rattle.std.proofs.Common.{refl, sym, ap, ◌∙◌, subst, arith}
 use Rattle.std.specs.Option.{option_map}
 use Rattle.std.specs.List.Sorted.{IsNonDecreasingBy, IsPartitionPoint}
 use Rattle.std.proofs.lemmas.Bool.{cases_lt, cases_order, leb-false, leb-true, true_from_ne_false}
 use Rattle.std.proofs.lemmas.List.{length-map}
 use Rattle.std.proofs.lemmas.List.Sums.{sum_by-cons}
 use Rattle.std.proofs.lemmas.Nat.{div-add-mod', mod_below, mul-le}
-use Rattle.std.proofs.lemmas.Option.{none-some, same_Some, slice_get-map, slice_get-get_or, slice_get_cases, slice_get_within, get_or_from_slice_get}
+use Rattle.std.proofs.lemmas.Option.{none-some, same_Some, slice_get-map, slice_get-get_or}
+use Rattle.std.proofs.lemmas.Option.{slice_get_cases, slice_get_within, get_or_from_slice_get}
 use Rattle.exchange_model.specs.declared.block.Block.{Block}
 use Rattle.exchange_model.specs.declared.entry.Cell.{Cell}
 use Rattle.exchange_model.specs.declared.entry.Cell.TheVariants.{Variable, Field, Mark}
 use Rattle.plex_limits.specs.declared.limits.TheConstants.{MOST_BLOCKS, MOST_CELLS}
-use Rattle.exchange_model.specs.Cells.{Placed, block_cells, cell_count, field_cell, file_cells, first_cell, marks, mark_cell, placed_files, record_cells, IsCell, cell_number}
-use Rattle.exchange_model.proofs.Numbers.{cell_number-below, cell_number-field, cell_number-mark, field_is_cell, mark_is_cell, there_from, variable_is_cell}
+use Rattle.exchange_model.specs.Cells.{Placed, block_cells, cell_count, field_cell, file_cells}
+use Rattle.exchange_model.specs.Cells.{first_cell, marks, mark_cell, placed_files, record_cells}
+use Rattle.exchange_model.specs.Cells.{IsCell, cell_number}
+use Rattle.exchange_model.proofs.Numbers.{cell_number-below, cell_number-field, cell_number-mark}
+use Rattle.exchange_model.proofs.Numbers.{field_is_cell, mark_is_cell, there_from, variable_is_cell}
 use Rattle.exchange_model.proofs.Places.{InFile, blocks_rise, covered, files_rise, file_within}
 use Rattle.store_layout.specs.declared.row.BlockRow.{BlockRow}
 use Rattle.store_layout.specs.declared.row.FileRow.{FileRow}
@@ -22,7 +28,9 @@ use Rattle.store_layout.specs.Search.{IsIn, IsLastUpTo, IsMarkAt, SomeUpTo}
 
 -- rows
 
-pub slice_get-block_rows : (word : ℕ) (bs : List Block) (b : ℕ) (k : Block) → slice_get bs b ≡ Some k → slice_get (block_rows word bs) b ≡ Some (record { first = word + first_cell bs b; variables = length k.variables })
+pub slice_get-block_rows : (word : ℕ) (bs : List Block) (b : ℕ) (k : Block) → slice_get bs b ≡ Some k
+    → slice_get (block_rows word bs) b ≡ Some (record
+    { first = word + first_cell bs b; variables = length k.variables })
 slice_get-block_rows word [] b k h = absurd (none-some k h)
 slice_get-block_rows word (c ∷ cs) zero k h =
     let same : c ≡ k = same_Some c k h in
@@ -43,7 +51,8 @@ block_row bs b k = record { first = first_cell bs b; variables = length k.variab
 block_row_at : (bs : List Block) (l : Rows) (b : ℕ) (k : Block) → IsLayout bs l → slice_get bs b ≡ Some k → slice_get l.blocks b ≡ Some (block_row bs b k)
 block_row_at bs l b k laid h =
     let none : 0 + first_cell bs b ≡ first_cell bs b = omega arith in
-    ap (λ (rs : List BlockRow). slice_get rs b) laid.blocks ∙ slice_get-block_rows 0 bs b k h ∙ ap (λ n. Some (record { first = n; variables = length k.variables })) none
+    ap (λ (rs : List BlockRow). slice_get rs b) laid.blocks ∙ slice_get-block_rows 0 bs b k h
+    ∙ ap (λ n. Some (record { first = n; variables = length k.variables })) none
 
 -- what stands at a place within a list
 record At {X : Type 0} (xs : List X) (i : ℕ) : Type 0 where
@@ -66,7 +75,8 @@ of_block bs l b row laid h =
     let k = at_place bs b within in
     record { block = k.one; there = k.there; is = same_Some row (block_row bs b k.one) (sym h ∙ block_row_at bs l b k.one laid k.there) }
 
-pub file_row_at : (bs : List Block) (l : Rows) (f : ℕ) (p : Placed) → IsLayout bs l → slice_get (placed_files bs) f ≡ Some p → slice_get l.files f ≡ Some (file_row p)
+pub file_row_at : (bs : List Block) (l : Rows) (f : ℕ) (p : Placed) → IsLayout bs l
+    → slice_get (placed_files bs) f ≡ Some p → slice_get l.files f ≡ Some (file_row p)
 file_row_at bs l f p laid h = ap (λ (rs : List FileRow). slice_get rs f) laid.files ∙ slice_get-map file_row (placed_files bs) f ∙ ap (option_map file_row) h
 
 record OfFile (bs : List Block) (f : ℕ) (row : FileRow) : Type 0 where
@@ -91,43 +101,51 @@ variable_within l c b i asked is =
     let t = there_from (slice_get asked.blocks b) (λ (k : Block). i < length k.variables) (subst (IsCell asked.blocks) is asked.cell) in
     slice_get_within l.blocks b (block_row asked.blocks b t.value) (block_row_at asked.blocks l b t.value asked.layout t.is)
 
-pub variable_word : (bs : List Block) (l : Rows) (c : Cell) (b i : ℕ) (row : BlockRow) → slice_get l.blocks b ≡ Some row → c ≡ Variable b i → IsLayout bs l → IsCell bs c → row.first + i ≡ cell_number bs c
+pub variable_word : (bs : List Block) (l : Rows) (c : Cell) (b i : ℕ) (row : BlockRow) → slice_get l.blocks b ≡ Some row
+    → c ≡ Variable b i → IsLayout bs l → IsCell bs c → row.first + i ≡ cell_number bs c
 variable_word bs l c b i row read is laid cell =
     let t = there_from (slice_get bs b) (λ (k : Block). i < length k.variables) (subst (IsCell bs) is cell) in
     let same : row ≡ block_row bs b t.value = same_Some row (block_row bs b t.value) (sym read ∙ block_row_at bs l b t.value laid t.is) in
     ap (λ (r : BlockRow). r.first + i) same ∙ ap (cell_number bs) (sym is)
 
-pub variable_fits : (l : Rows) (c : Cell) (b i : ℕ) (row : BlockRow) → HasCell l c → c ≡ Variable b i → slice_get l.blocks b ≡ Some row → row.first + i ≤ MOST_CELLS
+pub variable_fits : (l : Rows) (c : Cell) (b i : ℕ) (row : BlockRow) → HasCell l c → c ≡ Variable b i
+    → slice_get l.blocks b ≡ Some row → row.first + i ≤ MOST_CELLS
 variable_fits l c b i row asked is read =
     omega (arith, variable_word asked.blocks l c b i row read is asked.layout asked.cell, cell_fits asked.blocks l c asked.layout asked.cell)
 
 pub field_within : (l : Rows) (c : Cell) (f n x : ℕ) → HasCell l c → c ≡ Field f n x → f < length l.files
 field_within l c f n x asked is =
-    let t = there_from (slice_get (placed_files asked.blocks) f) (λ (p : Placed). (n < p.file.size) × (x < length p.file.fields)) (subst (IsCell asked.blocks) is asked.cell) in
+    let t = there_from (slice_get (placed_files asked.blocks) f)
+    (λ (p : Placed). (n < p.file.size) × (x < length p.file.fields)) (subst (IsCell asked.blocks) is asked.cell) in
     slice_get_within l.files f (file_row t.value) (file_row_at asked.blocks l f t.value asked.layout t.is)
 
-pub field_word : (bs : List Block) (l : Rows) (c : Cell) (f n x : ℕ) (row : FileRow) → slice_get l.files f ≡ Some row → c ≡ Field f n x → IsLayout bs l → IsCell bs c → row.first + n * row.stride + x ≡ cell_number bs c
+pub field_word : (bs : List Block) (l : Rows) (c : Cell) (f n x : ℕ) (row : FileRow) → slice_get l.files f ≡ Some row
+    → c ≡ Field f n x → IsLayout bs l → IsCell bs c → row.first + n * row.stride + x ≡ cell_number bs c
 field_word bs l c f n x row read is laid cell =
     let t = there_from (slice_get (placed_files bs) f) (λ (p : Placed). (n < p.file.size) × (x < length p.file.fields)) (subst (IsCell bs) is cell) in
     let same : row ≡ file_row t.value = same_Some row (file_row t.value) (sym read ∙ file_row_at bs l f t.value laid t.is) in
     ap (λ (r : FileRow). r.first + n * r.stride + x) same ∙ sym (cell_number-field bs f n x t.value t.is) ∙ ap (cell_number bs) (sym is)
 
-pub field_fits : (l : Rows) (c : Cell) (f n x : ℕ) (row : FileRow) → HasCell l c → c ≡ Field f n x → slice_get l.files f ≡ Some row → row.first + n * row.stride + x ≤ MOST_CELLS
+pub field_fits : (l : Rows) (c : Cell) (f n x : ℕ) (row : FileRow) → HasCell l c → c ≡ Field f n x
+    → slice_get l.files f ≡ Some row → row.first + n * row.stride + x ≤ MOST_CELLS
 field_fits l c f n x row asked is read =
     omega (arith, field_word asked.blocks l c f n x row read is asked.layout asked.cell, cell_fits asked.blocks l c asked.layout asked.cell)
 
 pub mark_within : (l : Rows) (c : Cell) (f n : ℕ) → HasCell l c → c ≡ Mark f n → f < length l.files
 mark_within l c f n asked is =
-    let t = there_from (slice_get (placed_files asked.blocks) f) (λ (p : Placed). (n < p.file.size) × (p.file.forlopp ≡ true)) (subst (IsCell asked.blocks) is asked.cell) in
+    let t = there_from (slice_get (placed_files asked.blocks) f)
+    (λ (p : Placed). (n < p.file.size) × (p.file.forlopp ≡ true)) (subst (IsCell asked.blocks) is asked.cell) in
     slice_get_within l.files f (file_row t.value) (file_row_at asked.blocks l f t.value asked.layout t.is)
 
-pub mark_word : (bs : List Block) (l : Rows) (c : Cell) (f n : ℕ) (row : FileRow) → slice_get l.files f ≡ Some row → c ≡ Mark f n → IsLayout bs l → IsCell bs c → row.first + n * row.stride + row.fields ≡ cell_number bs c
+pub mark_word : (bs : List Block) (l : Rows) (c : Cell) (f n : ℕ) (row : FileRow) → slice_get l.files f ≡ Some row
+    → c ≡ Mark f n → IsLayout bs l → IsCell bs c → row.first + n * row.stride + row.fields ≡ cell_number bs c
 mark_word bs l c f n row read is laid cell =
     let t = there_from (slice_get (placed_files bs) f) (λ (p : Placed). (n < p.file.size) × (p.file.forlopp ≡ true)) (subst (IsCell bs) is cell) in
     let same : row ≡ file_row t.value = same_Some row (file_row t.value) (sym read ∙ file_row_at bs l f t.value laid t.is) in
     ap (λ (r : FileRow). r.first + n * r.stride + r.fields) same ∙ sym (cell_number-mark bs f n t.value t.is) ∙ ap (cell_number bs) (sym is)
 
-pub mark_fits : (l : Rows) (c : Cell) (f n : ℕ) (row : FileRow) → HasCell l c → c ≡ Mark f n → slice_get l.files f ≡ Some row → row.first + n * row.stride + row.fields ≤ MOST_CELLS
+pub mark_fits : (l : Rows) (c : Cell) (f n : ℕ) (row : FileRow) → HasCell l c → c ≡ Mark f n
+    → slice_get l.files f ≡ Some row → row.first + n * row.stride + row.fields ≤ MOST_CELLS
 mark_fits l c f n row asked is read =
     omega (arith, mark_word asked.blocks l c f n row read is asked.layout asked.cell, cell_fits asked.blocks l c asked.layout asked.cell)
 
@@ -139,19 +157,23 @@ begins_block r = r.first
 abbrev begins_file : FileRow → ℕ
 begins_file r = r.first
 
-blocks_sorted : (bs : List Block) (l : Rows) → IsLayout bs l → (i j : ℕ) (x y : BlockRow) → i < j → slice_get l.blocks i ≡ Some x → slice_get l.blocks j ≡ Some y → x.first ≤ y.first
+blocks_sorted : (bs : List Block) (l : Rows) → IsLayout bs l → (i j : ℕ) (x y : BlockRow) → i < j
+    → slice_get l.blocks i ≡ Some x → slice_get l.blocks j ≡ Some y → x.first ≤ y.first
 blocks_sorted bs l laid i j x y lt h k =
     let a = of_block bs l i x laid h in
     let b = of_block bs l j y laid k in
     omega (arith, blocks_rise bs i j a.block a.there lt, ap begins_block a.is, ap begins_block b.is)
 
-files_sorted : (bs : List Block) (l : Rows) → IsLayout bs l → (i j : ℕ) (x y : FileRow) → i < j → slice_get l.files i ≡ Some x → slice_get l.files j ≡ Some y → x.first ≤ y.first
+files_sorted : (bs : List Block) (l : Rows) → IsLayout bs l → (i j : ℕ) (x y : FileRow) → i < j
+    → slice_get l.files i ≡ Some x → slice_get l.files j ≡ Some y → x.first ≤ y.first
 files_sorted bs l laid i j x y lt h k =
     let a = of_file bs l i x laid h in
     let b = of_file bs l j y laid k in
     omega (arith, files_rise bs i j a.placed b.placed lt a.there b.there, ap begins_file a.is, ap begins_file b.is)
 
-sorted_from : {X : Type 0} (first : X → ℕ) (xs : List X) → ((i j : ℕ) (x y : X) → i < j → slice_get xs i ≡ Some x → slice_get xs j ≡ Some y → first x ≤ first y) → IsNonDecreasingBy first xs
+sorted_from : {X : Type 0} (first : X → ℕ) (xs : List X)
+    → ((i j : ℕ) (x y : X) → i < j → slice_get xs i ≡ Some x → slice_get xs j ≡ Some y → first x ≤ first y)
+    → IsNonDecreasingBy first xs
 sorted_from first xs rises = λ i j d le lt.
     elim (cases_lt i j) [
       | inl before ↦
@@ -161,7 +183,9 @@ sorted_from first xs rises = λ i j d le lt.
     ]
 
 -- the place before the first that begins after the word
-pub last_of : {X : Type 0} (first : X → ℕ) (xs : List X) (word i : ℕ) → SomeUpTo first xs word → i ≤ length xs → IsPartitionPoint (λ y. leb (first y) word ≡ true) (λ y. leb (first y) word ≡ false) xs i → (1 ≤ i) × IsLastUpTo first xs word (i - 1)
+pub last_of : {X : Type 0} (first : X → ℕ) (xs : List X) (word i : ℕ) → SomeUpTo first xs word → i ≤ length xs
+    → IsPartitionPoint (λ y. leb (first y) word ≡ true) (λ y. leb (first y) word ≡ false) xs i
+    → (1 ≤ i) × IsLastUpTo first xs word (i - 1)
 last_of first xs word i some within point =
     let positive : 1 ≤ i = elim (cases_lt 0 i) [
       | inl lt ↦ omega arith
@@ -208,7 +232,9 @@ some_block l word asked =
     ]
 
 -- the word of a variable of the last of those blocks
-pub variable_found : (bs : List Block) (l : Rows) (word b : ℕ) (row : BlockRow) → IsLayout bs l → IsLastUpTo begins_block l.blocks word b → slice_get l.blocks b ≡ Some row → word - row.first < row.variables → IsCell bs (Variable b (word - row.first)) × (cell_number bs (Variable b (word - row.first)) ≡ word)
+pub variable_found : (bs : List Block) (l : Rows) (word b : ℕ) (row : BlockRow) → IsLayout bs l
+    → IsLastUpTo begins_block l.blocks word b → slice_get l.blocks b ≡ Some row → word - row.first < row.variables
+    → IsCell bs (Variable b (word - row.first)) × (cell_number bs (Variable b (word - row.first)) ≡ word)
 variable_found bs l word b row laid last there lt =
     let k = of_block bs l b row laid there in
     let low : row.first ≤ word = last.low row there in
@@ -239,11 +265,17 @@ in_file bs l word b laid below none =
             let start : first_cell bs v.block ≡ first_cell bs b = ap (first_cell bs) same in
             absurd (omega (arith, v.from, v.below, none.past, many, wide, start, first, low))
         | inr (inl before) ↦ absurd (omega (arith, v.below, blocks_rise bs v.block b v.owner v.there before, first, low))
-        | inr (inr after) ↦ absurd (omega (arith, v.from, none.last.last v.block (block_row bs v.block v.owner) after (block_row_at bs l v.block v.owner laid v.there)))
+        | inr (inr after) ↦ absurd (omega (
+          arith,
+          v.from,
+          none.last.last v.block (block_row bs v.block v.owner) after
+              (block_row_at bs l v.block v.owner laid v.there),
+        ))
       ]
     ]
 
-pub some_file : (l : Rows) (word b : ℕ) (row : BlockRow) → HasWord l word → IsLastUpTo begins_block l.blocks word b → slice_get l.blocks b ≡ Some row → row.variables ≤ word - row.first → SomeUpTo begins_file l.files word
+pub some_file : (l : Rows) (word b : ℕ) (row : BlockRow) → HasWord l word → IsLastUpTo begins_block l.blocks word b
+    → slice_get l.blocks b ≡ Some row → row.variables ≤ word - row.first → SomeUpTo begins_file l.files word
 some_file l word b row asked last there past =
     let r = in_file asked.blocks l word b asked.layout asked.below (record { last = last; row = row; there = there; past = past }) in
     record {
@@ -262,7 +294,8 @@ record Has (bs : List Block) (word f : ℕ) (row : FileRow) : Type 0 where
   pub from : placed.first ≤ word
   pub below : word < placed.first + file_cells placed.file
 
-has_word : (bs : List Block) (l : Rows) (word f : ℕ) (row : FileRow) → IsLayout bs l → InFile (placed_files bs) word → IsLastUpTo begins_file l.files word f → slice_get l.files f ≡ Some row → Has bs word f row
+has_word : (bs : List Block) (l : Rows) (word f : ℕ) (row : FileRow) → IsLayout bs l → InFile (placed_files bs) word
+    → IsLastUpTo begins_file l.files word f → slice_get l.files f ≡ Some row → Has bs word f row
 has_word bs l word f row laid r last there =
     let p = of_file bs l f row laid there in
     let low : p.placed.first ≤ word = omega (arith, last.low row there, ap begins_file p.is) in
@@ -292,7 +325,9 @@ some_wide bs word f row h =
     ]
 
 -- what the search for the row needs to know
-pub row_found : (l : Rows) (word b f : ℕ) (block : BlockRow) (row : FileRow) → HasWord l word → IsLastUpTo begins_block l.blocks word b → slice_get l.blocks b ≡ Some block → block.variables ≤ word - block.first → IsLastUpTo begins_file l.files word f → slice_get l.files f ≡ Some row → (row.first ≤ word) × (0 < row.stride)
+pub row_found : (l : Rows) (word b f : ℕ) (block : BlockRow) (row : FileRow) → HasWord l word
+    → IsLastUpTo begins_block l.blocks word b → slice_get l.blocks b ≡ Some block → block.variables ≤ word - block.first
+    → IsLastUpTo begins_file l.files word f → slice_get l.files f ≡ Some row → (row.first ≤ word) × (0 < row.stride)
 row_found l word b f block row asked last there past later shown =
     let r = in_file asked.blocks l word b asked.layout asked.below (record { last = last; row = block; there = there; past = past }) in
     let h = has_word asked.blocks l word f row asked.layout r later shown in
@@ -304,11 +339,13 @@ record_below p n x word is below =
     elim (cases_lt n p.file.size) [
       | inl lt ↦ lt
       | inr ge ↦
-          let many : p.file.size * record_cells p.file ≤ n * record_cells p.file = mul-le p.file.size (record_cells p.file) n (record_cells p.file) ge (omega arith) in
+          let many : p.file.size * record_cells p.file ≤ n * record_cells p.file =
+          mul-le p.file.size (record_cells p.file) n (record_cells p.file) ge (omega arith) in
           absurd (omega (arith, many, is, below))
     ]
 
-cell_has : (bs : List Block) (l : Rows) (word f : ℕ) (row : FileRow) (c : Cell) → IsLayout bs l → Has bs word f row → IsIn row word c → IsCell bs c × (cell_number bs c ≡ word)
+cell_has : (bs : List Block) (l : Rows) (word f : ℕ) (row : FileRow) (c : Cell) → IsLayout bs l → Has bs word f row
+    → IsIn row word c → IsCell bs c × (cell_number bs c ≡ word)
 cell_has bs l word f row (Variable block index) laid h is = absurd is
 cell_has bs l word f row (Field file number field) laid h is =
     let p : Placed = h.placed in
@@ -325,22 +362,28 @@ cell_has bs l word f row (Mark file number) laid h is =
     let there : slice_get (placed_files bs) file ≡ Some p = ap (slice_get (placed_files bs)) same ∙ h.there in
     let after : length p.file.fields ≤ mark.place = omega (arith, mark.after, ap (λ (r : FileRow). r.fields) h.is) in
     let within : mark.place < record_cells p.file = omega (arith, mark.within, ap (λ (r : FileRow). r.stride) h.is) in
-    let marked : p.file.forlopp ≡ true = true_from_ne_false p.file.forlopp (λ none. let no_mark : marks p.file.forlopp ≡ 0 = ap marks none in omega (arith, no_mark, after, within)) in
+    let marked : p.file.forlopp ≡ true = true_from_ne_false p.file.forlopp
+    (λ none. let no_mark : marks p.file.forlopp ≡ 0 = ap marks none in omega (arith, no_mark, after, within)) in
     let one : marks p.file.forlopp ≡ 1 = ap marks marked in
     let last : mark.place ≡ length p.file.fields = omega (arith, one, after, within) in
-    let spot : p.first + number * record_cells p.file + mark.place ≡ word = ap (λ (r : FileRow). r.first + number * r.stride + mark.place) (sym h.is) ∙ mark.is in
+    let spot : p.first + number * record_cells p.file + mark.place ≡ word =
+    ap (λ (r : FileRow). r.first + number * r.stride + mark.place) (sym h.is) ∙ mark.is in
     let at : mark_cell p number ≡ word = omega (arith, spot, last) in
     let inside : number < p.file.size = record_below p number mark.place word spot h.below in
     (mark_is_cell bs file number p there inside marked, cell_number-mark bs file number p there ∙ at)
 
-pub file_cell_found : (bs : List Block) (l : Rows) (word b f : ℕ) (block : BlockRow) (row : FileRow) (c : Cell) → HasWord l word → IsLayout bs l → IsLastUpTo begins_block l.blocks word b → slice_get l.blocks b ≡ Some block → block.variables ≤ word - block.first → IsLastUpTo begins_file l.files word f → slice_get l.files f ≡ Some row → IsIn row word c → IsCell bs c × (cell_number bs c ≡ word)
+pub file_cell_found : (bs : List Block) (l : Rows) (word b f : ℕ) (block : BlockRow) (row : FileRow) (c : Cell)
+    → HasWord l word → IsLayout bs l → IsLastUpTo begins_block l.blocks word b → slice_get l.blocks b ≡ Some block
+    → block.variables ≤ word - block.first → IsLastUpTo begins_file l.files word f → slice_get l.files f ≡ Some row
+    → IsIn row word c → IsCell bs c × (cell_number bs c ≡ word)
 file_cell_found bs l word b f block row c asked laid last there past later shown is =
     let below : word < cell_count bs = omega (arith, asked.below, asked.layout.cells, laid.cells) in
     let r = in_file bs l word b laid below (record { last = last; row = block; there = there; past = past }) in
     cell_has bs l word f row c laid (has_word bs l word f row laid r later shown) is
 
 -- what is left of a word after its record's fields is the mark
-pub mark_found : (row : FileRow) (word : ℕ) → row.first ≤ word → 0 < row.stride → row.fields ≤ (word - row.first) % row.stride → IsMarkAt row word ((word - row.first) / row.stride)
+pub mark_found : (row : FileRow) (word : ℕ) → row.first ≤ word → 0 < row.stride
+    → row.fields ≤ (word - row.first) % row.stride → IsMarkAt row word ((word - row.first) / row.stride)
 mark_found row word from some after = record {
   place = (word - row.first) % row.stride;
   after = after;

@@ -1,12 +1,14 @@
 -- What a layout holds of the exchange that it was made of, and what may be asked of it.
 --
--- A layout keeps of the blocks only where their cells stand, so that it is the layout of every exchange that has the same
--- cells. What is asked of it needs one such exchange, and what it answers holds of all.
+-- A layout keeps of the blocks only where their cells stand, so that it is the layout of every
+-- exchange that has the same cells. What is asked of it needs one such exchange, and what it
+-- answers holds of all.
 use Rattle.std.specs.Prelude.{◌≡◌, ℕ, ◌+◌, ◌<◌, ◌≤◌, List, [], ◌∷◌, length, map, slice_get, Some}
 use Rattle.exchange_model.specs.declared.block.Block.{Block}
 use Rattle.exchange_model.specs.declared.entry.Cell.{Cell}
 use Rattle.plex_limits.specs.declared.limits.TheConstants.{MOST_BLOCKS, MOST_CELLS}
-use Rattle.exchange_model.specs.Cells.{Placed, block_cells, cell_count, placed_files, record_cells, IsCell}
+use Rattle.exchange_model.specs.Cells.{Placed, block_cells, cell_count, placed_files, record_cells}
+use Rattle.exchange_model.specs.Cells.{IsCell}
 use Rattle.store_layout.specs.declared.row.BlockRow.{BlockRow}
 use Rattle.store_layout.specs.declared.row.FileRow.{FileRow}
 use Rattle.store_layout.specs.Rows.{Rows}
@@ -14,7 +16,8 @@ use Rattle.store_layout.specs.Rows.{Rows}
 -- the rows of these blocks, the first of which begins at this word
 abbrev pub block_rows : ℕ → List Block → List BlockRow
 block_rows word [] = []
-block_rows word (b ∷ bs) = record { first = word; variables = length b.variables } ∷ block_rows (word + block_cells b) bs
+block_rows word (b ∷ bs) =
+    record { first = word; variables = length b.variables } ∷ block_rows (word + block_cells b) bs
 
 abbrev pub file_row : Placed → FileRow
 file_row p = record {

@@ -1,5 +1,5 @@
--- How the cell of a word is looked for: the last block or file that begins at the word or before it, and the cell of that
--- file's records.
+-- How the cell of a word is looked for: the last block or file that begins at the word or before
+-- it, and the cell of that file's records.
 use Rattle.std.specs.Prelude.{◌≡◌, ℕ, ◌+◌, ◌*◌, ◌<◌, ◌≤◌, List, length, slice_get, Some}
 use Rattle.std.specs.List.Sorted.{IsNonDecreasingBy}
 use Rattle.exchange_model.specs.declared.entry.Cell.{Cell}
@@ -29,5 +29,6 @@ pub record IsMarkAt (row : FileRow) (word number : ℕ) : Type 0 where
 
 abbrev pub IsIn : FileRow → ℕ → Cell → Type 0
 IsIn row word (Variable block index) = ⊥
-IsIn row word (Field file number field) = (file ≡ row.number) × (field < row.fields) × (row.first + number * row.stride + field ≡ word)
+IsIn row word (Field file number field) =
+    (file ≡ row.number) × (field < row.fields) × (row.first + number * row.stride + field ≡ word)
 IsIn row word (Mark file number) = (file ≡ row.number) × IsMarkAt row word number

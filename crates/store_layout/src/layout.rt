@@ -1,4 +1,5 @@
-ghost use Rattle.std.specs.Prelude.{◌≡◌, ℕ, ◌+◌, ◌*◌, ◌<◌, ◌≤◌, ◌^◌, ◌++◌, List, IfOk, Some, length, map, slice_get, sum_by};
+ghost use Rattle.std.specs.Prelude.{◌≡◌, ℕ, ◌+◌, ◌*◌, ◌<◌, ◌≤◌, ◌^◌, ◌++◌, List, IfOk, Some};
+ghost use Rattle.std.specs.Prelude.{length, map, slice_get, sum_by};
 ghost use Rattle.std.specs.List.{AllByRecursion};
 ghost use Rattle.exchange_model.specs.Cells.{IsCell, cell_number, file_cells, placed_in};
 ghost use Rattle.exchange_model.specs.Kept.{FileFits};
@@ -62,7 +63,8 @@ pub fn layout_of(alloc: Global, exchange: &Exchange) -> Result<Layout, Memory>
     })
 }
 
-/// Appends the rows of these files, the first of which begins at this word, and gives the word after the last one.
+/// Appends the rows of these files, the first of which begins at this word, and gives the word
+/// after the last one.
 #[tactic(auto, using(crate::proofs::Laying::files_laid_begin, crate::proofs::Laying::files_laid_end))]
 fn lay_files(rows: &mut Seq<FileRow>, first: u32, files: &[File]) -> Result<u32, Memory>
     requires fits { AllByRecursion FileFits files.now }

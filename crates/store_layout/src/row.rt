@@ -7,8 +7,8 @@ pub struct BlockRow {
     pub variables: u32,
 }
 
-/// Where the records of a file stand: its number, the word at which they begin, how many there are, the fields of one
-/// record, and the words from one record to the next.
+/// Where the records of a file stand: its number, the word at which they begin, how many there are,
+/// the fields of one record, and the words from one record to the next.
 #[derive(Clone, Copy)]
 pub struct FileRow {
     pub number: u32,

@@ -1,14 +1,15 @@
 // The store before the first job.
 ghost use Rattle.std.specs.Prelude.{◌≡◌, ◌++◌, [], IfOk};
-ghost use Rattle.exchange_model.specs.Opening.{block_opening, file_opening, inits, opening_store, record_opening};
+ghost use Rattle.exchange_model.specs.Opening.{block_opening, file_opening, inits, opening_store};
+ghost use Rattle.exchange_model.specs.Opening.{record_opening};
 
 use crate::layout::Layout;
 use exchange_model::{Block, Exchange, File, Variable};
 use plex_num::{Memory, Seq};
 use std::alloc::Global;
 
-/// The store before the first job: the INIT values, and marks 0. Its room is taken at once, by the layout's number of
-/// words.
+/// The store before the first job: the INIT values, and marks 0. Its room is taken at once, by the
+/// layout's number of words.
 #[tactic(auto, using(crate::proofs::Opened::blocks_begin, crate::proofs::Opened::blocks_end))]
 pub fn opening(alloc: Global, exchange: &Exchange, layout: &Layout) -> Result<Seq<u32>, Memory>
     ensures { IfOk result (λ store. store ≡ opening_store exchange.now.blocks) }

@@ -17,7 +17,8 @@ use Rattle.text_events.specs.declared.role.Meaning.TheVariants as meaning
 use Rattle.text_events.specs.declared.role.Role.TheVariants as role
 use Rattle.text_events.specs.Note.{Event, Head}
 use Rattle.text_events.specs.Note as note
-use Rattle.text_events.specs.Walk.{EventWalk, add, in_turn, names_of, names_walk, stmt_walk, head_of}
+use Rattle.text_events.specs.Walk.{EventWalk, add, in_turn, names_of, names_walk, stmt_walk}
+use Rattle.text_events.specs.Walk.{head_of}
 
 -- declarations
 
@@ -31,11 +32,13 @@ width_walk width init out = init_walk init width.value (add width.line (note.Wid
 
 -- the field of this number in this file
 abbrev pub field_walk : Field → ℕ → ℕ → EventWalk
-field_walk d file field out = width_walk d.width d.init (add d.name.line (note.Declares d.name.name (meaning.Field file field)) out)
+field_walk d file field out = width_walk d.width d.init
+    (add d.name.line (note.Declares d.name.name (meaning.Field file field)) out)
 
 abbrev pub fields_walk : List Field → ℕ → ℕ → EventWalk
 fields_walk [] file field out = out
-fields_walk (d ∷ rest) file field out = fields_walk rest file (field + 1) (field_walk d file field out)
+fields_walk (d ∷ rest) file field out =
+    fields_walk rest file (field + 1) (field_walk d file field out)
 
 abbrev pub variables_of : DeclKind → ℕ
 variables_of (decls.Variable n w i clear) = 1
@@ -57,19 +60,25 @@ cells_of (decls.File forlopp n size fields) = size.value * (length fields + mark
 
 -- a declaration, after as many variables, temporaries and files
 abbrev pub decl_walk : DeclKind → ℕ → ℕ → ℕ → EventWalk
-decl_walk (decls.Variable n w i clear) v t f out = width_walk w i (add n.line (note.Declares n.name (meaning.Variable v)) out)
-decl_walk (decls.Temporary n) v t f out = add n.line (note.Declares n.name (meaning.Temporary t)) out
-decl_walk (decls.File forlopp n size fields) v t f out = fields_walk fields f 0 (add size.line (note.Size size.value) (add n.line (note.Declares n.name (meaning.File f forlopp)) out))
+decl_walk (decls.Variable n w i clear) v t f out =
+    width_walk w i (add n.line (note.Declares n.name (meaning.Variable v)) out)
+decl_walk (decls.Temporary n) v t f out =
+    add n.line (note.Declares n.name (meaning.Temporary t)) out
+decl_walk (decls.File forlopp n size fields) v t f out = fields_walk fields f 0
+    (add size.line (note.Size size.value) (add n.line
+    (note.Declares n.name (meaning.File f forlopp)) out))
 
 abbrev pub decls_walk : List Decl → ℕ → ℕ → ℕ → EventWalk
 decls_walk [] v t f out = out
 decls_walk (d ∷ rest) v t f out =
-    decls_walk rest (v + variables_of d.kind) (t + temporaries_of d.kind) (f + files_of d.kind) (decl_walk d.kind v t f (add d.line (note.Cells (cells_of d.kind)) out))
+    decls_walk rest (v + variables_of d.kind) (t + temporaries_of d.kind) (f + files_of d.kind)
+    (decl_walk d.kind v t f (add d.line (note.Cells (cells_of d.kind)) out))
 
 -- the survey
 
 abbrev pub survey_walk_at : SurveyKind → ℕ → EventWalk
-survey_walk_at (surveys.Receive s) line out = add s.line (note.Names s.name role.Received) (add line (note.Receives s.name) out)
+survey_walk_at (surveys.Receive s) line out =
+    add s.line (note.Names s.name role.Received) (add line (note.Receives s.name) out)
 survey_walk_at (surveys.Send s) line out = add s.line (note.Names s.name (role.Sent false)) out
 
 abbrev pub survey_walk : Survey → EventWalk
@@ -88,9 +97,11 @@ labels_of _ = 0
 
 -- an item on its line, after as many labels
 abbrev pub item_walk_at : ItemKind → ℕ → ℕ → Head → Head → EventWalk
-item_walk_at (items.Label n) line k before after out = add n.line (note.Declares n.name (meaning.Label k)) out
+item_walk_at (items.Label n) line k before after out =
+    add n.line (note.Declares n.name (meaning.Label k)) out
 item_walk_at (items.Enter s ns) line k before after out =
-    names_walk ns (add s.line (note.Names s.name role.Received) (add line (note.Begins (note.Enters s.name (length (names_of ns))) before after) out))
+    names_walk ns (add s.line (note.Names s.name role.Received)
+    (add line (note.Begins (note.Enters s.name (length (names_of ns))) before after) out))
 item_walk_at (items.Stmt s) line k before after out = (stmt_walk s).walk before after out
 
 abbrev pub first_item : List Item → Head
@@ -99,14 +110,16 @@ first_item (x ∷ rest) = item_head_at x.kind
 
 abbrev pub items_walk : List Item → ℕ → Head → EventWalk
 items_walk [] k before out = out
-items_walk (x ∷ rest) k before out = items_walk rest (k + labels_of x.kind) (item_head_at x.kind) (item_walk_at x.kind x.line k before (first_item rest) out)
+items_walk (x ∷ rest) k before out = items_walk rest (k + labels_of x.kind) (item_head_at x.kind)
+    (item_walk_at x.kind x.line k before (first_item rest) out)
 
 -- its name stands before all else, and its END after all else
 abbrev pub block_head : Block → List Event
 block_head b = add b.name.line (note.BlockName b.name.name) (add b.line note.Block [])
 
 abbrev pub block_body : Block → List Event
-block_body b = items_walk b.items 0 note.Nothing (in_turn (map survey_walk b.surveys) (decls_walk b.decls 0 0 0 (block_head b)))
+block_body b = items_walk b.items 0 note.Nothing
+    (in_turn (map survey_walk b.surveys) (decls_walk b.decls 0 0 0 (block_head b)))
 
 abbrev pub block_events : Block → List Event
 block_events b = add b.end_line note.Ends (block_body b)

@@ -1,4 +1,5 @@
--- What is kept of an event, and the line and the note that it stands for: the tree tells what it can, so that little is kept.
+-- What is kept of an event, and the line and the note that it stands for: the tree tells what it
+-- can, so that little is kept.
 use Rattle.std.specs.Prelude.{ℕ, List, get_or, map}
 use Rattle.plex_ast.specs.declared.block.Item.{Item}
 use Rattle.plex_ast.specs.declared.block.ItemKind.{ItemKind}

@@ -4,13 +4,15 @@ use Rattle.text_events.specs.declared.role.Meaning.{Meaning}
 use Rattle.text_events.specs.declared.role.Need.{Need}
 use Rattle.text_events.specs.declared.role.Role.{Role}
 
--- to which of several receivers a signal goes: nothing is said of it, a block is named, or a name holds the block
+-- to which of several receivers a signal goes: nothing is said of it, a block is named, or a name
+-- holds the block
 pub data SignalWay : Type 0 where
   Open : SignalWay
   To : (block : List ℕ) → SignalWay
   Held : SignalWay
 
--- a statement or a label as its neighbours and the rules see it; `count` is that of the names or values after WITH
+-- a statement or a label as its neighbours and the rules see it; `count` is that of the names or
+-- values after WITH
 pub data Head : Type 0 where
   -- the list begins or ends there
   Nothing : Head
@@ -24,14 +26,16 @@ pub data Head : Type 0 where
 
 -- a statement is named by the number of the events before it in its part
 pub data Note : Type 0 where
-  -- a declaration makes so many signals; a signal or an answer has this name, and carries so many values
+  -- a declaration makes so many signals; a signal or an answer has this name, and carries so many
+  -- values
   Signals : (count : ℕ) → Note
   Signal : (name : List ℕ) → Note
   Carries : (count : ℕ) → Note
   -- a block begins, and has this name
   Block : Note
   BlockName : (name : List ℕ) → Note
-  -- a declaration takes so many cells; a name is declared; the numbers after WIDTH, after INIT with its WIDTH, and after SIZE
+  -- a declaration takes so many cells; a name is declared; the numbers after WIDTH, after INIT with
+  -- its WIDTH, and after SIZE
   Cells : (count : ℕ) → Note
   Declares : (name : List ℕ) (meaning : Meaning) → Note
   Width : (bits : ℕ) → Note
@@ -51,7 +55,8 @@ pub data Note : Type 0 where
   Refers : (block : List ℕ) (owner : ℕ) → Note
   -- a label to which control may go
   Goes : (label : List ℕ) → Note
-  -- the file that FOR FIRST looks through; the field that it looks at, and its file; the file of SEIZE or FREE
+  -- the file that FOR FIRST looks through; the field that it looks at, and its file; the file of
+  -- SEIZE or FREE
   Searches : (file : List ℕ) → Note
   Compares : (field file : List ℕ) → Note
   Holds : (file : List ℕ) → Note

@@ -1,5 +1,5 @@
--- What the program keeps of a place, and the note that it stands for: names stand in the tree, and what begins at a place is told by the
--- list and the number of the statement in it.
+-- What the program keeps of a place, and the note that it stands for: names stand in the tree, and
+-- what begins at a place is told by the list and the number of the statement in it.
 use Rattle.std.specs.Prelude.{ℕ, zero, suc, List, get_or, map}
 use Rattle.plex_ast.specs.declared.block.Item.{Item}
 use Rattle.plex_ast.specs.declared.stmt.Stmt.{Stmt}
@@ -73,4 +73,5 @@ note_of kind.Ends = note.Ends
 
 -- the walk of the item at a place, after as many labels
 abbrev pub item_walk_in : Item → List Item → ℕ → ℕ → EventWalk
-item_walk_in x items at label out = item_walk_at x.kind x.line label (head_before (item_heads items) at) (head_at (item_heads items) (suc at)) out
+item_walk_in x items at label out = item_walk_at x.kind x.line label
+    (head_before (item_heads items) at) (head_at (item_heads items) (suc at)) out

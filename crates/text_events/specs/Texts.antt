@@ -25,11 +25,13 @@ signals_made _ = 1
 abbrev pub shape_walk : ShapeKind → EventWalk
 shape_walk (Buffered level values) out = values_said values out
 shape_walk (Direct values) out = values_said values out
-shape_walk (Combined values answer answer_values) out = values_said answer_values (name_said answer (values_said values out))
+shape_walk (Combined values answer answer_values) out =
+    values_said answer_values (name_said answer (values_said values out))
 shape_walk (Outside values) out = values_said values out
 
 abbrev pub signal_walk : Signal → EventWalk
-signal_walk s out = shape_walk s.shape.kind (name_said s.name (add s.line (note.Signals (signals_made s.shape.kind)) out))
+signal_walk s out = shape_walk s.shape.kind (name_said s.name
+    (add s.line (note.Signals (signals_made s.shape.kind)) out))
 
 abbrev pub signal_events : Tree → List Event
 signal_events t = in_turn (map signal_walk t.signals) []

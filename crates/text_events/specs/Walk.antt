@@ -1,6 +1,7 @@
--- What stands in an expression or in a statement, in the order of the text: each walk takes the events so far and gives these
--- and its own.
-use Rattle.std.specs.Prelude.{ℕ, List, [], ◌∷◌, ◌++◌, length, map, Option, Some, None, true, false, Bool}
+-- What stands in an expression or in a statement, in the order of the text: each walk takes the
+-- events so far and gives these and its own.
+use Rattle.std.specs.Prelude.{ℕ, List, [], ◌∷◌, ◌++◌, length, map, Option, Some, None, true, false}
+use Rattle.std.specs.Prelude.{Bool}
 use Rattle.token_grammar.specs.declared.named.Named.{Named}
 use Rattle.plex_ast.specs.declared.expr.Added.{Added, Added-F, fold-Added}
 use Rattle.plex_ast.specs.declared.expr.Multiplied.{Multiplied, Multiplied-F, fold-Multiplied}
@@ -47,14 +48,17 @@ each_walk (w ∷ ws) owner out = each_walk ws owner (w owner out)
 
 -- expressions: each number, name, field and block counts, and the pointer of a field does not
 
-abbrev pub factor_walk_at : factors.FactorKind-F OwnWalk OwnWalk OwnWalk OwnWalk OwnWalk OwnWalk → OwnWalk
+abbrev pub factor_walk_at : factors.FactorKind-F OwnWalk OwnWalk OwnWalk OwnWalk OwnWalk OwnWalk
+    → OwnWalk
 factor_walk_at (factors.Number n) owner out = add n.line (note.Counts owner) out
 factor_walk_at (factors.Name n) owner out = add n.line (note.Reads n.name need.Value owner) out
-factor_walk_at (factors.Field n p) owner out = add p.line (note.Uses p.name need.Temporary) (add n.line (note.Reads n.name need.Field owner) out)
+factor_walk_at (factors.Field n p) owner out = add p.line (note.Uses p.name need.Temporary)
+    (add n.line (note.Reads n.name need.Field owner) out)
 factor_walk_at (factors.Bracket e) owner out = e owner out
 factor_walk_at (factors.Reference m) owner out = add m.line (note.Refers m.name owner) out
 
-abbrev pub multiplied_walk_at : factors.Multiplied-F OwnWalk OwnWalk OwnWalk OwnWalk OwnWalk OwnWalk → OwnWalk
+abbrev pub multiplied_walk_at : factors.Multiplied-F OwnWalk OwnWalk OwnWalk OwnWalk OwnWalk OwnWalk
+    → OwnWalk
 multiplied_walk_at (factors.Times f) = f
 multiplied_walk_at (factors.Over f) = f
 multiplied_walk_at (factors.Mod f) = f
@@ -73,22 +77,28 @@ abbrev pub one_factor : factors.Factor-F OwnWalk OwnWalk OwnWalk OwnWalk OwnWalk
 one_factor f = f.kind
 
 unfoldable pub expr_walk : Expr → OwnWalk
-expr_walk = fold-Expr OwnWalk OwnWalk OwnWalk OwnWalk OwnWalk OwnWalk added_walk_at factor_walk_at multiplied_walk_at expr_walk_at one_factor term_walk_at
+expr_walk = fold-Expr OwnWalk OwnWalk OwnWalk OwnWalk OwnWalk OwnWalk added_walk_at factor_walk_at
+    multiplied_walk_at expr_walk_at one_factor term_walk_at
 
 unfoldable pub term_walk : Term → OwnWalk
-term_walk = fold-Term OwnWalk OwnWalk OwnWalk OwnWalk OwnWalk OwnWalk added_walk_at factor_walk_at multiplied_walk_at expr_walk_at one_factor term_walk_at
+term_walk = fold-Term OwnWalk OwnWalk OwnWalk OwnWalk OwnWalk OwnWalk added_walk_at factor_walk_at
+    multiplied_walk_at expr_walk_at one_factor term_walk_at
 
 unfoldable pub factor_walk : Factor → OwnWalk
-factor_walk = fold-Factor OwnWalk OwnWalk OwnWalk OwnWalk OwnWalk OwnWalk added_walk_at factor_walk_at multiplied_walk_at expr_walk_at one_factor term_walk_at
+factor_walk = fold-Factor OwnWalk OwnWalk OwnWalk OwnWalk OwnWalk OwnWalk added_walk_at
+    factor_walk_at multiplied_walk_at expr_walk_at one_factor term_walk_at
 
 unfoldable pub factor_kind_walk : FactorKind → OwnWalk
-factor_kind_walk = fold-FactorKind OwnWalk OwnWalk OwnWalk OwnWalk OwnWalk OwnWalk added_walk_at factor_walk_at multiplied_walk_at expr_walk_at one_factor term_walk_at
+factor_kind_walk = fold-FactorKind OwnWalk OwnWalk OwnWalk OwnWalk OwnWalk OwnWalk added_walk_at
+    factor_walk_at multiplied_walk_at expr_walk_at one_factor term_walk_at
 
 unfoldable pub added_walk : Added → OwnWalk
-added_walk = fold-Added OwnWalk OwnWalk OwnWalk OwnWalk OwnWalk OwnWalk added_walk_at factor_walk_at multiplied_walk_at expr_walk_at one_factor term_walk_at
+added_walk = fold-Added OwnWalk OwnWalk OwnWalk OwnWalk OwnWalk OwnWalk added_walk_at factor_walk_at
+    multiplied_walk_at expr_walk_at one_factor term_walk_at
 
 unfoldable pub multiplied_walk : Multiplied → OwnWalk
-multiplied_walk = fold-Multiplied OwnWalk OwnWalk OwnWalk OwnWalk OwnWalk OwnWalk added_walk_at factor_walk_at multiplied_walk_at expr_walk_at one_factor term_walk_at
+multiplied_walk = fold-Multiplied OwnWalk OwnWalk OwnWalk OwnWalk OwnWalk OwnWalk added_walk_at
+    factor_walk_at multiplied_walk_at expr_walk_at one_factor term_walk_at
 
 -- conditions
 
@@ -176,20 +186,32 @@ kind_head (stmts.Transfer n r) = note.Transfers n.name (way_of r)
 kind_head _ = note.Other
 
 abbrev pub kind_own : StmtKind-F KindWalk StmtWalk OwnWalk → OwnWalk
-kind_own (stmts.Assign n e) owner out = expr_walk e owner (add n.line (note.Uses n.name need.Value) out)
-kind_own (stmts.SetField n p e) owner out = expr_walk e owner (add p.line (note.Uses p.name need.Temporary) (add n.line (note.Uses n.name need.Field) out))
+kind_own (stmts.Assign n e) owner out =
+    expr_walk e owner (add n.line (note.Uses n.name need.Value) out)
+kind_own (stmts.SetField n p e) owner out = expr_walk e owner
+    (add p.line (note.Uses p.name need.Temporary) (add n.line (note.Uses n.name need.Field) out))
 kind_own (stmts.Goto l) owner out = add l.line (note.Goes l.name) out
 kind_own (stmts.IfGoto c l) owner out = add l.line (note.Goes l.name) (cond_walk c owner out)
-kind_own (stmts.If c first other) owner out = branch_walk other (body_walk first (cond_walk c owner out))
-kind_own (stmts.Case e whens other) owner out = body_walk other (each_walk whens owner (expr_walk e owner out))
-kind_own (stmts.On n from upto body) owner out = body_walk body (expr_walk upto owner (expr_walk from owner (name_walk n out)))
+kind_own (stmts.If c first other) owner out =
+    branch_walk other (body_walk first (cond_walk c owner out))
+kind_own (stmts.Case e whens other) owner out =
+    body_walk other (each_walk whens owner (expr_walk e owner out))
+kind_own (stmts.On n from upto body) owner out =
+    body_walk body (expr_walk upto owner (expr_walk from owner (name_walk n out)))
 kind_own (stmts.ForFirst n file field r e l) owner out =
-    add l.line (note.Goes l.name) (expr_walk e owner (add field.line (note.Compares field.name file.name) (add file.line (note.Searches file.name) (name_walk n out))))
-kind_own (stmts.Send n r es fresh) owner out = values_walk es owner (reference_walk r (add n.line (note.Names n.name (role.Sent (is_there r))) out))
-kind_own (stmts.Retrieve n ns) owner out = names_walk ns (add n.line (note.Names n.name role.Answer) out)
-kind_own (stmts.Return n es) owner out = values_walk es owner (add n.line (note.Names n.name role.Answer) out)
-kind_own (stmts.Transfer n r) owner out = reference_walk r (add n.line (note.Names n.name role.Transferred) out)
-kind_own (stmts.Seize n file l) owner out = add l.line (note.Goes l.name) (add file.line (note.Holds file.name) (name_walk n out))
+    add l.line (note.Goes l.name) (expr_walk e owner
+    (add field.line (note.Compares field.name file.name)
+    (add file.line (note.Searches file.name) (name_walk n out))))
+kind_own (stmts.Send n r es fresh) owner out = values_walk es owner
+    (reference_walk r (add n.line (note.Names n.name (role.Sent (is_there r))) out))
+kind_own (stmts.Retrieve n ns) owner out =
+    names_walk ns (add n.line (note.Names n.name role.Answer) out)
+kind_own (stmts.Return n es) owner out =
+    values_walk es owner (add n.line (note.Names n.name role.Answer) out)
+kind_own (stmts.Transfer n r) owner out =
+    reference_walk r (add n.line (note.Names n.name role.Transferred) out)
+kind_own (stmts.Seize n file l) owner out =
+    add l.line (note.Goes l.name) (add file.line (note.Holds file.name) (name_walk n out))
 kind_own (stmts.Free n file) owner out = add file.line (note.Holds file.name) (name_walk n out)
 kind_own stmts.Exit owner out = out
 
@@ -197,10 +219,15 @@ abbrev pub kind_walk_at : StmtKind-F KindWalk StmtWalk OwnWalk → KindWalk
 kind_walk_at k = record { head = kind_head k; walk = kind_own k }
 
 abbrev pub stmt_walk_at : stmts.Stmt-F KindWalk StmtWalk OwnWalk → StmtWalk
-stmt_walk_at s = record { head = s.kind.head; walk = λ before after out. s.kind.walk (length out) (add s.line (note.Begins s.kind.head before after) out) }
+stmt_walk_at s = record {
+  head = s.kind.head;
+  walk = λ before after out. s.kind.walk (length out)
+      (add s.line (note.Begins s.kind.head before after) out);
+}
 
 abbrev pub when_walk_at : When-F KindWalk StmtWalk OwnWalk → OwnWalk
-when_walk_at w owner out = body_walk w.body (add w.number.line (note.Chooses owner w.number.value) out)
+when_walk_at w owner out =
+    body_walk w.body (add w.number.line (note.Chooses owner w.number.value) out)
 
 unfoldable pub kind_walk : StmtKind → KindWalk
 kind_walk = fold-StmtKind KindWalk StmtWalk OwnWalk kind_walk_at stmt_walk_at when_walk_at

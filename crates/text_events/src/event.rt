@@ -9,7 +9,8 @@ use plex_ast::{Item, Stmt};
 use std::marker::Model;
 use token_grammar::KeptName;
 
-/// What stands at a place. Names stand in the tree. A statement is named by the number of the events before it in its part.
+/// What stands at a place. Names stand in the tree. A statement is named by the number of the
+/// events before it in its part.
 #[derive(Clone, Copy, Drop)]
 pub enum EventKind<'a> {
     /// A declaration makes so many signals.
@@ -132,7 +133,12 @@ impl<'a> Model for Event<'a> {
 
     ghost Value = { Said };
 
-    ghost coded = { Prim.hlevel (codes, meaning.the_row.coded, need.the_row.coded, role.the_row.coded) };
+    ghost coded = { Prim.hlevel (
+      codes,
+      meaning.the_row.coded,
+      need.the_row.coded,
+      role.the_row.coded,
+    ) };
 
     ghost view = { λ e. record { line = line_kept e.kept; note = note_kept e.kept } };
 }

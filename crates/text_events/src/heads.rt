@@ -3,14 +3,16 @@ ghost use Rattle.std.specs.Prelude.{◌≡◌, length};
 ghost use Rattle.text_events.specs.Walk.{names_of, values_of, kind_head, way_of};
 ghost use Rattle.text_events.specs.Blocks.{item_head_at};
 ghost use Rattle.text_events.specs.Note.{begun, before_begun, after_begun};
-ghost use Rattle.text_events.specs.Seen.{note_of, way_seen, head_seen, head_at, head_before, stmt_heads, item_heads};
+ghost use Rattle.text_events.specs.Seen.{note_of, way_seen, head_seen, head_at, head_before};
+ghost use Rattle.text_events.specs.Seen.{stmt_heads, item_heads};
 ghost use Rattle.plex_ast.specs.declared.stmt.StmtKind.{out-StmtKind};
 
 use crate::event::EventKind;
 use plex_ast::{Boxed, Exprs, Item, ItemKind, Names, Reference, ReferenceKind, Stmt, StmtKind};
 use token_grammar::KeptName;
 
-/// To which of several receivers a signal goes: nothing is said of it, a block is named, or a name holds the block.
+/// To which of several receivers a signal goes: nothing is said of it, a block is named, or a name
+/// holds the block.
 #[derive(Clone, Copy, Drop)]
 pub enum Way<'a> {
     Open,
@@ -18,7 +20,8 @@ pub enum Way<'a> {
     Held,
 }
 
-/// A statement or a label as its neighbours and the rules see it; `count` is that of the names or values after WITH.
+/// A statement or a label as its neighbours and the rules see it; `count` is that of the names or
+/// values after WITH.
 #[derive(Clone, Copy, Drop)]
 pub enum Head<'a> {
     /// The list begins or ends there.

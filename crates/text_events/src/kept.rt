@@ -2,7 +2,8 @@
 ghost use Rattle.std.specs.Prelude.{◌≡◌};
 ghost use Rattle.text_events.specs.Note as note;
 ghost use Rattle.text_events.specs.Seen.{note_of};
-ghost use Rattle.text_events.specs.Kept.{stmt_line_at, own_line, item_line_at, line_kept, note_kept};
+ghost use Rattle.text_events.specs.Kept.{stmt_line_at, own_line, item_line_at, line_kept};
+ghost use Rattle.text_events.specs.Kept.{note_kept};
 ghost use Rattle.text_events.specs.declared.role.Meaning.TheVariants as meanings;
 
 use crate::event::EventKind;
@@ -26,7 +27,8 @@ pub struct Compared<'a> {
     pub file: &'a Named,
 }
 
-/// What is kept of an event, in 16 bytes: small fields come first, the tree tells what it can, and what is seldom is boxed.
+/// What is kept of an event, in 16 bytes: small fields come first, the tree tells what it can, and
+/// what is seldom is boxed.
 #[derive(Drop)]
 pub enum PackedEvent<'a> {
     Signals {
@@ -297,7 +299,8 @@ fn declared_kind(n: &Named, meaning: Meaning) -> EventKind<'_>
 }
 
 fn field_kind<'a>(here: &FieldHere<'a>) -> EventKind<'a>
-    ensures { note_of result ≡ note.Declares here.now.name.now.name (meanings.Field here.now.file here.now.field) }
+    ensures { note_of result ≡ note.Declares here.now.name.now.name
+        (meanings.Field here.now.file here.now.field) }
 {
     let meaning = Meaning::Field {
         file: here.file,

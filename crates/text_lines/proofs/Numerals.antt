@@ -1,8 +1,14 @@
 -- Numerals and the numbers that they say.
-use Rattle.std.proofs.Common.{◌≡◌, ◌≢◌, ℕ, ◌+◌, ◌*◌, ◌-◌, ◌^◌, ◌<◌, Bool, true, false, cond, nat_lt, nat_le, nat_eq, ◌&&◌, List, [], ◌∷◌, length, map, get_or, Option, Some, None, MatchOption, refl, sym, ◌∙◌, ap, subst, arith, decimal, ◌⊎◌, inl, inr}
-use Rattle.std.proofs.lemmas.Bool.{lt-ltb, ltb-true, le-leb, and_parts, and_from, cases_eq, eqb-false, ne_eqb, not-true, not_from_false, true≢false}
+use Rattle.std.proofs.Common.{◌≡◌, ◌≢◌, ℕ, ◌+◌, ◌*◌, ◌-◌, ◌^◌, ◌<◌, Bool, true, false, cond, nat_lt}
+use Rattle.std.proofs.Common.{nat_le, nat_eq, ◌&&◌, List, [], ◌∷◌, length, map, get_or, Option}
+use Rattle.std.proofs.Common.{Some, None, MatchOption, refl, sym, ◌∙◌, ap, subst, arith, decimal}
+use Rattle.std.proofs.Common.{◌⊎◌, inl, inr}
+use Rattle.std.proofs.lemmas.Bool.{lt-ltb, ltb-true, le-leb, and_parts, and_from, cases_eq}
+use Rattle.std.proofs.lemmas.Bool.{eqb-false, ne_eqb, not-true, not_from_false, true≢false}
 use Rattle.std.proofs.lemmas.Bool.Decides.{nat_tests}
-use Rattle.std.proofs.lemmas.Fmt.{decimal_digit, digits_decimal, digits_value-decimal, decimal-digits_value, length-decimal-le, decimal_nonempty, first_decimal}
+use Rattle.std.proofs.lemmas.Fmt.{decimal_digit, digits_decimal, digits_value-decimal}
+use Rattle.std.proofs.lemmas.Fmt.{decimal-digits_value, length-decimal-le, decimal_nonempty}
+use Rattle.std.proofs.lemmas.Fmt.{first_decimal}
 use Rattle.std.proofs.lemmas.Str.Parse.{IsDigitsTest, FoldsDigits, IsNumeralModel, numerals_by_fold}
 use Rattle.std.specs.Char.{is_ascii_digit}
 use Rattle.std.specs.Int.{IsInRange}
@@ -54,7 +60,8 @@ unfolding Digits digits_from
 are_digits n m [] e = tt
 are_digits n m (c ∷ cs) e = at (is_ascii_digit c) refl (are_digits (n * 10 + (c - 48)) m cs) e
   where
-    at : (b : Bool) → is_ascii_digit c ≡ b → (digits_from (n * 10 + (c - 48)) cs ≡ Some m → Digits cs) → cond b (digits_from (n * 10 + (c - 48)) cs) None ≡ Some m → IsInRange 48 57 c × Digits cs
+    at : (b : Bool) → is_ascii_digit c ≡ b → (digits_from (n * 10 + (c - 48)) cs ≡ Some m → Digits cs)
+        → cond b (digits_from (n * 10 + (c - 48)) cs) None ≡ Some m → IsInRange 48 57 c × Digits cs
     at true digit rest e = (in_range c digit, rest e)
     at false digit rest e = cc
 
@@ -62,8 +69,15 @@ pub number_of-decimal : (n : ℕ) → n < 2 ^ 32 → number_of (decimal n) ≡ S
 unfolding number_of
 number_of-decimal n h =
     let wide : n < 2 ^ 64 = omega arith in
-    let e : digits_from 0 (decimal n) ≡ Some n = digits_from_value 0 (decimal n) (digits_decimal the_model n wide) ∙ ap (λ v. Some v) (digits_value-decimal the_model n wide) in
-    rw (lt-ltb 0 (length (decimal n)) (decimal_nonempty n wide), le-leb (length (decimal n)) 10 (length-decimal-le 10 n (omega arith) (omega arith) wide), e, lt-ltb n (2 ^ 32) h) refl
+    let e : digits_from 0 (decimal n) ≡ Some n = digits_from_value 0 (decimal n) (digits_decimal the_model n wide)
+    ∙ ap (λ v. Some v) (digits_value-decimal the_model n wide) in
+    rw (
+      lt-ltb 0 (length (decimal n)) (decimal_nonempty n wide),
+      le-leb (length (decimal n)) 10
+          (length-decimal-le 10 n (omega arith) (omega arith) wide),
+      e,
+      lt-ltb n (2 ^ 32) h,
+    ) refl
 
 -- a list that begins so has no leading zero
 begins_so : (ds : List ℕ) → 0 < length ds → 48 < get_or ds 0 0 → begins_rightly ds ≡ true
@@ -80,7 +94,8 @@ decimal_all_digits n wide = all_digits (decimal n) (digits_decimal the_model n w
 
 pub is_numeral-decimal : (n : ℕ) → n < 2 ^ 64 → is_numeral (decimal n) ≡ true
 unfolding is_numeral
-is_numeral-decimal n wide = and_from (begins_rightly (decimal n)) (list_all is_ascii_digit (decimal n)) (decimal_begins n wide (cases_eq n 0)) (decimal_all_digits n wide)
+is_numeral-decimal n wide = and_from (begins_rightly (decimal n)) (list_all is_ascii_digit (decimal n))
+    (decimal_begins n wide (cases_eq n 0)) (decimal_all_digits n wide)
 
 -- where the first digit is 0 it is the only one
 alone : (ds : List ℕ) → begins_rightly ds ≡ true → get_or ds 0 0 ≡ 48 → length ds ≡ 1

@@ -1,5 +1,7 @@
 -- Lists cut at the places that pass a test.
-use Rattle.std.proofs.Common.{◌≡◌, ℕ, suc, ◌+◌, ◌≤◌, Bool, true, false, not, cond, nat_lt, eqb, List, [], ◌∷◌, length, drop, take, position, Some, None, refl, ap, ◌∙◌, arith, inl, inr}
+use Rattle.std.proofs.Common.{◌≡◌, ℕ, suc, ◌+◌, ◌≤◌, Bool, true, false, not, cond, nat_lt, eqb}
+use Rattle.std.proofs.Common.{List, [], ◌∷◌, length, drop, take, position, Some, None, refl, ap}
+use Rattle.std.proofs.Common.{◌∙◌, arith, inl, inr}
 use Rattle.std.specs.List.{slice_split, onto_first, position_or_len}
 use Rattle.std.proofs.lemmas.List.Splits.{slice_split_first}
 use Rattle.std.proofs.lemmas.Bool.{cases_Bool, ltb-false, ltb-true}
@@ -33,7 +35,8 @@ all_left p (x ∷ xs) le = elim (cases_Bool (p x)) [
 ]
 
 pub split_none : (p : ℕ → Bool) (xs : List ℕ) → position p xs ≡ None → slice_split p xs ≡ xs ∷ []
-split_none p xs e = all_left p xs (ltb-false (position_or_len p xs) (length xs) (place_none (nat_lt (position_or_len p xs) (length xs)) (position_or_len p xs) e))
+split_none p xs e = all_left p xs (ltb-false (position_or_len p xs) (length xs)
+    (place_none (nat_lt (position_or_len p xs) (length xs)) (position_or_len p xs) e))
 
 -- there is always a part
 pub some_part : (p : ℕ → Bool) (xs : List ℕ) → (y : List ℕ) × (ys : List (List ℕ)) × (slice_split p xs ≡ y ∷ ys)

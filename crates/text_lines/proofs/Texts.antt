@@ -1,5 +1,6 @@
 -- The lines of a text.
-use Rattle.std.proofs.Common.{◌≡◌, ◌≢◌, ℕ, Bool, true, false, nat_eq, List, [], ◌∷◌, ◌++◌, map, refl, sym, ap, ◌∙◌, append_assoc}
+use Rattle.std.proofs.Common.{◌≡◌, ◌≢◌, ℕ, Bool, true, false, nat_eq, List, [], ◌∷◌, ◌++◌, map}
+use Rattle.std.proofs.Common.{refl, sym, ap, ◌∙◌, append_assoc}
 use Rattle.std.specs.Prelude.{if◌then◌else◌}
 use Rattle.std.specs.List.{AllByRecursion, flat_map, onto_first}
 use Rattle.std.proofs.lemmas.Bool.{ne_eqb}
@@ -33,7 +34,8 @@ unfolding lines_in
 lines_joined [] = refl
 lines_joined (b ∷ rest) = at (nat_eq b 10) (lines_joined rest)
   where
-    at : (t : Bool) → flat_map (λ part. part) (lines_in rest) ≡ rest → flat_map (λ part. part) (if t then (b ∷ []) ∷ lines_in rest else onto_first b (lines_in rest)) ≡ b ∷ rest
+    at : (t : Bool) → flat_map (λ part. part) (lines_in rest) ≡ rest
+        → flat_map (λ part. part) (if t then (b ∷ []) ∷ lines_in rest else onto_first b (lines_in rest)) ≡ b ∷ rest
     at true e = ap (λ (r : List ℕ). b ∷ r) e
     at false e = onto_joined b (lines_in rest) ∙ ap (λ (r : List ℕ). b ∷ r) e
 

@@ -1,7 +1,7 @@
 -- The words of a line.
 --
--- Lines end with LF, a CR directly before it is no part of them, and the last LF may be missing. The words of a line are its
--- longest runs of bytes other than space and tab.
+-- Lines end with LF, a CR directly before it is no part of them, and the last LF may be missing.
+-- The words of a line are its longest runs of bytes other than space and tab.
 use Rattle.std.specs.Prelude.{◌==◌, ℕ, nat_eq, Bool, true, false, ◌||◌, List, [], ◌∷◌, filter}
 use Rattle.std.specs.List.{slice_split}
 

@@ -2,7 +2,8 @@
 ghost use Rattle.std.specs.Prelude.{◌≡◌, ◌++◌, ◌<◌, IfSome, MatchOption, length, nat_eq, position};
 ghost use Rattle.text_lines.specs.Parts.{HasNo, IsCut, StartsWith};
 
-/// The bytes before the first that is `end`, and what follows it; `None` where it does not stand in the text.
+/// The bytes before the first that is `end`, and what follows it; `None` where it does not stand in
+/// the text.
 pub fn cut(text: &[u8], end: u8) -> Option<(&[u8], &[u8])>
     ensures { MatchOption result (HasNo end text.now) (λ r. IsCut end text.now r.0.now r.1.now) }
 {

@@ -1,5 +1,6 @@
 // Lines of a text and words of a line, from the front.
-ghost use Rattle.std.specs.Prelude.{◌≡◌, ◌<◌, ◌≤◌, ◌∷◌, [], IfSome, MatchOption, Some, drop, length, position, take};
+ghost use Rattle.std.specs.Prelude.{◌≡◌, ◌<◌, ◌≤◌, ◌∷◌, [], IfSome, MatchOption, Some, drop};
+ghost use Rattle.std.specs.Prelude.{length, position, take};
 ghost use Rattle.std.specs.Str.{bytes_eq};
 ghost use Rattle.std.specs.Str.Lines.{lines, strip_carriage_return};
 ghost use Rattle.text_lines.specs.Words.{is_blank, is_comment, is_line_end, is_skipped, words};

@@ -6,7 +6,8 @@ use plex_num::{Memory, Seq};
 use std::alloc::Global;
 use std::marker::Model;
 
-/// Texts in an order, which contracts see as the list of them. One that stands there again is kept once.
+/// Texts in an order, which contracts see as the list of them. One that stands there again is kept
+/// once.
 pub struct Parts {
     kept: Seq<Seq<u8>>,
     order: Seq<usize>,
@@ -50,7 +51,8 @@ impl Parts {
         Ok(())
     }
 
-    /// Appends the part at a place, counted from 0, once more; where there is none, nothing. After `Memory` the parts are of no more use.
+    /// Appends the part at a place, counted from 0, once more; where there is none, nothing. After
+    /// `Memory` the parts are of no more use.
     pub fn again(&mut self, i: usize) -> Result<(), Memory>
         ensures { OnOk result ((part : List ℕ) → slice_get self.old i ≡ Some part
             → self.new ≡ self.old ++ part ∷ []) }

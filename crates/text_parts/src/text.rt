@@ -14,7 +14,8 @@ const PART_ROOM: usize = 65_536;
 /// How many bytes a part has at most that goes on.
 const PART_BYTES: usize = 64_512;
 
-/// A text, which contracts see as its bytes. What it has already is not moved as it grows, and has little room to spare.
+/// A text, which contracts see as its bytes. What it has already is not moved as it grows, and has
+/// little room to spare.
 pub struct Text {
     alloc: Global,
     pub(crate) parts: Parts,
@@ -75,7 +76,8 @@ impl Text {
         }
     }
 
-    /// The last bytes, which leave the text, so that they can be made longer and put back. It takes no memory.
+    /// The last bytes, which leave the text, so that they can be made longer and put back. It takes
+    /// no memory.
     #[tactic(auto, using(crate::proofs::Joined::end_taken))]
     pub fn take_end(&mut self) -> Seq<u8>
         ensures { self.old ≡ self.new ++ result }

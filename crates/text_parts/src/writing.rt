@@ -8,8 +8,8 @@ use crate::parts::Parts;
 use crate::text::Text;
 use plex_io::{Sink, SinkFailed, write_all};
 
-/// Writes the whole text, by as many writes as it takes; it takes no memory. `SinkFailed` comes where one of these failed: then a
-/// proper prefix of the text was written.
+/// Writes the whole text, by as many writes as it takes; it takes no memory. `SinkFailed` comes
+/// where one of these failed: then a proper prefix of the text was written.
 pub fn write_text<K: Sink>(sink: &mut K, text: &Text) -> Result<(), SinkFailed>
     ensures ok { OnOk result (K.written sink.new ≡ appended (K.written sink.old) text.now) }
     ensures err { OnErr result (WroteLess (K.written sink.old) (K.written sink.new) text.now) }

@@ -1,12 +1,14 @@
 -- What is known of the names of signals and of blocks after one event more.
-use Rattle.std.proofs.Common.{◌≡◌, ℕ, ◌||◌, inl, inr, List, [], ◌∷◌, ◌++◌, refl, sym, ◌∙◌, ap, rules}
+use Rattle.std.proofs.Common.{◌≡◌, ℕ, ◌||◌, inl, inr, List, [], ◌∷◌, ◌++◌, refl, sym, ◌∙◌, ap}
+use Rattle.std.proofs.Common.{rules}
 use mathlib.Core.Path.{fun_ext}
 use Rattle.first_fault.specs.Told.{Among, Rising, HasAll}
 use Rattle.first_fault.proofs.First.{any_push}
 use Rattle.text_events.specs.Note.{Event}
 use Rattle.text_rules.specs.declared.rule.SignalRule.{SignalRule}
 use Rattle.text_rules.specs.declared.rule.SignalRule.TheVariants as rule
-use Rattle.text_rules.specs.Signals.{KnownNames, known_of, names_signal, names_block, signal_note, block_note, number_of, all_rules, KnowsNothing, Sees}
+use Rattle.text_rules.specs.Signals.{KnownNames, known_of, names_signal, names_block, signal_note}
+use Rattle.text_rules.specs.Signals.{block_note, number_of, all_rules, KnowsNothing, Sees}
 
 among_all : (q : SignalRule) → Among q all_rules
 among_all rule.Once = inl refl

@@ -1,10 +1,12 @@
--- The rules of a block: each is a condition on one event, with what the events before it, the whole block, the signals and the names of
--- blocks say.
-use Rattle.std.specs.Prelude.{◌≡◌, ℕ, ◌+◌, ◌^◌, if◌then◌else◌, Bool, true, false, not, ◌&&◌, ◌||◌, List, [], ◌∷◌, Option, None, Some, is_some, get_or, nat_eq, nat_lt}
+-- The rules of a block: each is a condition on one event, with what the events before it, the whole
+-- block, the signals and the names of blocks say.
+use Rattle.std.specs.Prelude.{◌≡◌, ℕ, ◌+◌, ◌^◌, if◌then◌else◌, Bool, true, false, not, ◌&&◌, ◌||◌}
+use Rattle.std.specs.Prelude.{List, [], ◌∷◌, Option, None, Some, is_some, get_or, nat_eq, nat_lt}
 use Rattle.std.specs.Str.{bytes_eq}
 use Rattle.std.specs.List.{list_any}
 use Rattle.first_fault.specs.First.{any, count, or_else}
-use Rattle.plex_limits.specs.declared.limits.TheConstants.{MOST_TEMPORARIES, MOST_OPERANDS, MOST_RECORDS}
+use Rattle.plex_limits.specs.declared.limits.TheConstants.{MOST_TEMPORARIES, MOST_OPERANDS}
+use Rattle.plex_limits.specs.declared.limits.TheConstants.{MOST_RECORDS}
 use Rattle.exchange_model.specs.declared.signal.SignalKind.{SignalKind}
 use Rattle.exchange_model.specs.declared.signal.SignalKind.TheVariants as signal
 use Rattle.exchange_model.specs.Kept.{signal_count}
@@ -12,12 +14,16 @@ use Rattle.plex_ast.specs.declared.block.Block.{Block}
 use Rattle.signal_types.specs.Found.{number_in, kind_in}
 use Rattle.text_events.specs.Named.{naming_of, meaning_of_note}
 use Rattle.text_events.specs.declared.role.Meaning.{Meaning}
-use Rattle.text_events.specs.declared.role.Meaning.TheVariants.{Variable, Temporary, File, Field, Label}
+use Rattle.text_events.specs.declared.role.Meaning.TheVariants.{Variable, Temporary, File, Field}
+use Rattle.text_events.specs.declared.role.Meaning.TheVariants.{Label}
 use Rattle.text_events.specs.declared.role.Need.{Need}
 use Rattle.text_events.specs.declared.role.Need.TheVariants as need
 use Rattle.text_events.specs.declared.role.Role.{Role}
 use Rattle.text_events.specs.declared.role.Role.TheVariants as role
-use Rattle.text_events.specs.Note.{Event, Note, Head, Enters, Sends, Retrieves, Returns, Declares, Width, Init, Size, Names, Uses, Reads, Counts, Refers, Goes, Searches, Compares, Holds, Chooses, begun, before_begun, after_begun}
+use Rattle.text_events.specs.Note.{Event, Note, Head, Enters, Sends, Retrieves, Returns, Declares}
+use Rattle.text_events.specs.Note.{Width, Init, Size, Names, Uses, Reads, Counts, Refers, Goes}
+use Rattle.text_events.specs.Note.{Searches, Compares, Holds, Chooses, begun, before_begun}
+use Rattle.text_events.specs.Note.{after_begun}
 use Rattle.text_rules.specs.Surveys.{block_named}
 use Rattle.text_rules.specs.declared.rule.BlockRule.{BlockRule}
 use Rattle.text_rules.specs.declared.rule.BlockRule.TheVariants as rule
@@ -81,7 +87,8 @@ known_of signals blocks own before = record {
 }
 
 -- nothing is known of the parts before
-abbrev pub known_in_part : List SignalKind → List Block → List (List Event) → List Event → List Event → KnownInBlock
+abbrev pub known_in_part : List SignalKind → List Block → List (List Event) → List Event
+    → List Event → KnownInBlock
 known_in_part signals blocks done own before = known_of signals blocks own before
 
 -- 1
@@ -188,7 +195,8 @@ abbrev pub same_number : Option ℕ → Option ℕ → Bool
 same_number (Some a) (Some b) = nat_eq a b
 same_number _ _ = false
 
--- whether a statement retrieves this answer, and whether it sends the combined signal of this answer
+-- whether a statement retrieves this answer, and whether it sends the combined signal of this
+-- answer
 abbrev pub retrieves : (List ℕ → Option ℕ) → Option ℕ → Head → Bool
 retrieves number answer (Retrieves n count) = same_number answer (number n)
 retrieves number answer _ = false
@@ -199,7 +207,8 @@ asks kind answer _ = false
 
 -- a statement between two neighbours
 abbrev pub apart : (List ℕ → Option ℕ) → (List ℕ → Option SignalKind) → Head → Head → Head → Bool
-apart number kind (Sends n way count fresh) before after = is_some (answer_of (kind n)) && not (retrieves number (answer_of (kind n)) after)
+apart number kind (Sends n way count fresh) before after =
+    is_some (answer_of (kind n)) && not (retrieves number (answer_of (kind n)) after)
 apart number kind (Retrieves n count) before after = not (asks kind (number n) before)
 apart number kind _ before after = false
 
@@ -265,7 +274,10 @@ number_of rule.ChosenTwice = 15
 number_of rule.NoBlock = 17
 
 abbrev pub all_rules : List BlockRule
-all_rules = rule.DeclaredTwice ∷ rule.Width ∷ rule.Init ∷ rule.Size ∷ rule.Temporaries ∷ rule.WrongName ∷ rule.NoLabel ∷ rule.NotSearched ∷ rule.NotHeld ∷ rule.WrongSignal ∷ rule.WrongCount ∷ rule.Apart ∷ rule.Operands ∷ rule.WrongFresh ∷ rule.ChosenTwice ∷ rule.NoBlock ∷ []
+all_rules = rule.DeclaredTwice ∷ rule.Width ∷ rule.Init ∷ rule.Size ∷ rule.Temporaries
+    ∷ rule.WrongName ∷ rule.NoLabel ∷ rule.NotSearched ∷ rule.NotHeld ∷ rule.WrongSignal
+    ∷ rule.WrongCount ∷ rule.Apart ∷ rule.Operands ∷ rule.WrongFresh ∷ rule.ChosenTwice
+    ∷ rule.NoBlock ∷ []
 
 -- before the first event
 pub record KnowsNothing (k : KnownInBlock) : Type 0 where
@@ -276,7 +288,8 @@ pub record KnowsNothing (k : KnownInBlock) : Type 0 where
 -- after one event more
 pub record Sees (k : KnownInBlock) (note : Note) (l : KnownInBlock) : Type 0 where
   pub declared : (n : List ℕ) → l.declared n ≡ or_else (meaning_of_note n note) (k.declared n)
-  pub counted : (o : ℕ) → l.counted o ≡ k.counted o + (if is_owner o (operand_of note) then 1 else 0)
+  pub counted : (o : ℕ) → l.counted o ≡ k.counted o
+      + (if is_owner o (operand_of note) then 1 else 0)
   pub chosen : (o n : ℕ) → l.chosen o n ≡ (k.chosen o n || chooses_note o n note)
   pub label : l.label ≡ k.label
   pub number : l.number ≡ k.number

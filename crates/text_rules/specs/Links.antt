@@ -1,15 +1,18 @@
--- The link rules and the limits, each a condition on one event, with what the surveys of all blocks, the own block and the events before
--- it say.
-use Rattle.std.specs.Prelude.{ℕ, zero, suc, ◌+◌, Bool, true, false, not, ◌&&◌, ◌||◌, List, [], ◌∷◌, ◌++◌, length, Option, Some, None, nat_eq, nat_lt, nat_le, slice_get}
+-- The link rules and the limits, each a condition on one event, with what the surveys of all
+-- blocks, the own block and the events before it say.
+use Rattle.std.specs.Prelude.{ℕ, zero, suc, ◌+◌, Bool, true, false, not, ◌&&◌, ◌||◌, List, [], ◌∷◌}
+use Rattle.std.specs.Prelude.{◌++◌, length, Option, Some, None, nat_eq, nat_lt, nat_le, slice_get}
 use Rattle.std.specs.Str.{bytes_eq}
 use Rattle.first_fault.specs.First.{any, total}
 use Rattle.exchange_model.specs.Inside.{joined}
 use Rattle.exchange_model.specs.declared.signal.SignalKind.{SignalKind}
 use Rattle.exchange_model.specs.declared.signal.SignalKind.TheVariants.{Buffered, Outside}
-use Rattle.plex_limits.specs.declared.limits.TheConstants.{MOST_SIGNALS, MOST_BLOCKS, MOST_ENTRIES, MOST_STATEMENTS, MOST_CELLS}
+use Rattle.plex_limits.specs.declared.limits.TheConstants.{MOST_SIGNALS, MOST_BLOCKS, MOST_ENTRIES}
+use Rattle.plex_limits.specs.declared.limits.TheConstants.{MOST_STATEMENTS, MOST_CELLS}
 use Rattle.plex_ast.specs.declared.block.Block.{Block as TreeBlock}
 use Rattle.signal_types.specs.Found.{kind_in}
-use Rattle.text_events.specs.Note.{Event, Note, Head, SignalWay, Open, To, Enters, Sends, Transfers, Signals, Block, Cells, Receives, Begins, Ends, begun}
+use Rattle.text_events.specs.Note.{Event, Note, Head, SignalWay, Open, To, Enters, Sends, Transfers}
+use Rattle.text_events.specs.Note.{Signals, Block, Cells, Receives, Begins, Ends, begun}
 use Rattle.text_rules.specs.Surveys.{block_named, receiver_count, receives_at, sends, enters, is_so}
 use Rattle.text_rules.specs.declared.rule.LinkRule.{LinkRule}
 use Rattle.text_rules.specs.declared.rule.LinkRule.TheVariants as rule
@@ -101,7 +104,8 @@ plus a b = record {
 pub record KnownForLinks : Type 0 where
   -- the signal of a name
   pub kind : List ℕ → Option SignalKind
-  -- how many blocks receive a signal, the number of the block of a name, and whether the block of a number receives a signal
+  -- how many blocks receive a signal, the number of the block of a name, and whether the block of a
+  -- number receives a signal
   pub receivers : List ℕ → ℕ
   pub named : List ℕ → Option ℕ
   pub received_by : ℕ → List ℕ → Bool
@@ -118,7 +122,8 @@ abbrev pub block_of : List TreeBlock → ℕ → Option TreeBlock
 block_of blocks zero = None
 block_of blocks (suc b) = slice_get blocks b
 
-abbrev pub known_of : List SignalKind → List TreeBlock → Option TreeBlock → List Event → List Event → KnownForLinks
+abbrev pub known_of : List SignalKind → List TreeBlock → Option TreeBlock → List Event → List Event
+    → KnownForLinks
 known_of signals blocks own_one all_before before = record {
   kind = kind_in signals;
   receivers = receiver_count blocks;
@@ -131,8 +136,10 @@ known_of signals blocks own_one all_before before = record {
   before = amounts_in (kind_in signals) all_before;
 }
 
-abbrev pub known_in_part : List SignalKind → List TreeBlock → List (List Event) → List Event → List Event → KnownForLinks
-known_in_part signals blocks done own before = known_of signals blocks (block_of blocks (length done)) (joined done ++ before) before
+abbrev pub known_in_part : List SignalKind → List TreeBlock → List (List Event) → List Event
+    → List Event → KnownForLinks
+known_in_part signals blocks done own before =
+    known_of signals blocks (block_of blocks (length done)) (joined done ++ before) before
 
 -- the rules
 
@@ -217,4 +224,5 @@ number_of rule.NoEnter = 6
 number_of rule.Limit = 7
 
 abbrev pub all_rules : List LinkRule
-all_rules = rule.NoReceiver ∷ rule.NeedsReference ∷ rule.NotReceived ∷ rule.NotInSurvey ∷ rule.TwoEnters ∷ rule.NoEnter ∷ rule.Limit ∷ []
+all_rules = rule.NoReceiver ∷ rule.NeedsReference ∷ rule.NotReceived ∷ rule.NotInSurvey
+    ∷ rule.TwoEnters ∷ rule.NoEnter ∷ rule.Limit ∷ []

@@ -8,7 +8,8 @@ use Rattle.text_events.specs.Note.{Event, Note, Signal, Carries, BlockName}
 use Rattle.text_rules.specs.declared.rule.SignalRule.{SignalRule}
 use Rattle.text_rules.specs.declared.rule.SignalRule.TheVariants.{Once, FewValues}
 
--- whether an event is that of a signal or an answer of this name, and whether it is that of a block of this name
+-- whether an event is that of a signal or an answer of this name, and whether it is that of a block
+-- of this name
 
 abbrev pub signal_note : List ℕ → Note → Bool
 signal_note n (Signal m) = bytes_eq m n
@@ -24,13 +25,17 @@ block_note n _ = false
 abbrev pub names_block : List ℕ → Event → Bool
 names_block n e = block_note n e.note
 
--- what a rule may look at besides its event: the names of signals with their answers, and those of blocks, that stand before
+-- what a rule may look at besides its event: the names of signals with their answers, and those of
+-- blocks, that stand before
 pub record KnownNames : Type 0 where
   pub signal : List ℕ → Bool
   pub block : List ℕ → Bool
 
 abbrev pub known_of : List Event → KnownNames
-known_of before = record { signal = λ n. any (names_signal n) before; block = λ n. any (names_block n) before }
+known_of before = record {
+  signal = λ n. any (names_signal n) before;
+  block = λ n. any (names_block n) before;
+}
 
 -- the parts before and what stands before in the own part
 abbrev pub known_in_part : List (List Event) → List Event → List Event → KnownNames

@@ -47,7 +47,8 @@ sends s b = any (line_sends s) b.surveys
 abbrev pub enters : List ℕ → Block → Bool
 enters s b = any (item_enters s) b.items
 
--- the number of the first block of a name, and of the first one that receives a signal; how many receive it
+-- the number of the first block of a name, and of the first one that receives a signal; how many
+-- receive it
 
 abbrev pub has_name : List ℕ → Block → Bool
 has_name n b = bytes_eq b.name.name n

@@ -1,5 +1,6 @@
--- What a text is refused with. The phases come in this order: the signals and the names of blocks; the rules of blocks; the links and the
--- limits. So a fault is the least by phase, by place in the text, and by number.
+-- What a text is refused with. The phases come in this order: the signals and the names of blocks;
+-- the rules of blocks; the links and the limits. So a fault is the least by phase, by place in the
+-- text, and by number.
 use Rattle.std.specs.Prelude.{◌≡◌, ℕ, List, Option, Some, None}
 use Rattle.first_fault.specs.First.{or_else}
 use Rattle.first_fault.specs.Told.{told_parts}
@@ -24,13 +25,16 @@ line_of e = e.line
 -- what each phase tells of the parts of a text: a rule and its line
 
 abbrev pub signals_told : List (List Event) → Option (SignalRule × ℕ)
-signals_told parts = told_parts (λ r k e. signals.broken r k e.note) signals.all_rules line_of signals.known_in_part parts
+signals_told parts = told_parts (λ r k e. signals.broken r k e.note) signals.all_rules line_of
+    signals.known_in_part parts
 
 abbrev pub blocks_told : List SignalKind → List Block → List (List Event) → Option (BlockRule × ℕ)
-blocks_told kinds bs parts = told_parts (λ r k e. blocks.broken r k e.note) blocks.all_rules line_of (blocks.known_in_part kinds bs) parts
+blocks_told kinds bs parts = told_parts (λ r k e. blocks.broken r k e.note) blocks.all_rules line_of
+    (blocks.known_in_part kinds bs) parts
 
 abbrev pub links_told : List SignalKind → List Block → List (List Event) → Option (LinkRule × ℕ)
-links_told kinds bs parts = told_parts (λ r k e. links.broken r k e.note) links.all_rules line_of (links.known_in_part kinds bs) parts
+links_told kinds bs parts = told_parts (λ r k e. links.broken r k e.note) links.all_rules line_of
+    (links.known_in_part kinds bs) parts
 
 -- a fault of one phase, as one of any
 abbrev pub as_rule : {R : Type 0} → (R → Rule) → Option (R × ℕ) → Option (Rule × ℕ)

@@ -1,9 +1,11 @@
 // What the surveys of all blocks say, looked up by hash.
-ghost use Rattle.std.specs.Prelude.{◌≡◌, ◌+◌, ◌||◌, ◌&&◌, ℕ, List, false, not, nat_eq, IfOk, OnOk, if◌then◌else◌, Option};
+ghost use Rattle.std.specs.Prelude.{◌≡◌, ◌+◌, ◌||◌, ◌&&◌, ℕ, List, false, not, nat_eq, IfOk, OnOk};
+ghost use Rattle.std.specs.Prelude.{if◌then◌else◌, Option};
 ghost use Rattle.std.specs.Str.{bytes_eq};
 ghost use Rattle.indexmap.specs.IndexMap.{get};
 ghost use Rattle.first_fault.specs.First.{any, or_else};
-ghost use Rattle.text_rules.specs.Surveys.{line_receives, block_named, first_receiver, receiver_count, receives_at};
+ghost use Rattle.text_rules.specs.Surveys.{line_receives, block_named, first_receiver};
+ghost use Rattle.text_rules.specs.Surveys.{receiver_count, receives_at};
 ghost use Rattle.text_rules.specs.Received.{has_pair, counted_in, first_in, chosen};
 
 use indexmap::{IndexMap, IndexSet};
@@ -246,7 +248,8 @@ impl Numbers {
     }
 }
 
-/// The blocks of a text, each found by its name and by the signals that its survey receives. Of several blocks the first counts.
+/// The blocks of a text, each found by its name and by the signals that its survey receives. Of
+/// several blocks the first counts.
 pub struct BlockTable<'a> {
     pub(crate) numbers: Numbers,
     pub(crate) received: Received,
@@ -269,8 +272,8 @@ impl Drop for BlockTable<'_> {
 }
 
 impl<'a> BlockTable<'a> {
-    /// The table of these blocks, with a seed that hangs on the names of the text. Memory is refused also where there are
-    /// 2^32 of them or more.
+    /// The table of these blocks, with a seed that hangs on the names of the text. Memory is
+    /// refused also where there are 2^32 of them or more.
     #[tactic(auto, using(crate::proofs::SurveySteps::blocks_named, crate::proofs::SurveySteps::blocks_pairs, crate::proofs::SurveySteps::blocks_counts, crate::proofs::SurveySteps::blocks_firsts))]
     pub fn of(alloc: Global, blocks: &'a [Block], seed: Seed) -> Result<BlockTable<'a>, Memory>
         ensures { IfOk result (λ t. t.blocks.now ≡ blocks.now) }

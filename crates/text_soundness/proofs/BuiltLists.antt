@@ -1,5 +1,7 @@
--- Statements in a list: where the events of the list break no rule, each of them stands as it must, beside its neighbours too.
-use Rattle.std.proofs.Common.{◌≡◌, ℕ, ◌+◌, ◌≤◌, true, List, [], ◌∷◌, length, map, refl, sym, ◌∙◌, ap, subst, arith, length-append}
+-- Statements in a list: where the events of the list break no rule, each of them stands as it must,
+-- beside its neighbours too.
+use Rattle.std.proofs.Common.{◌≡◌, ℕ, ◌+◌, ◌≤◌, true, List, [], ◌∷◌, length, map, refl, sym, ◌∙◌}
+use Rattle.std.proofs.Common.{ap, subst, arith, length-append}
 use Rattle.std.specs.List.{AllByRecursion}
 use Rattle.std.proofs.Math.Nat.{max-le}
 use Rattle.plex_ast.specs.declared.block.Block.{Block as TreeBlock}
@@ -11,7 +13,8 @@ use Rattle.exchange_model.specs.Inside.{kind_depth, text_depth, own_exprs, inner
 use Rattle.exchange_model.specs.PartCounts.{parts_depth, parts_spots, stmt_spots}
 use Rattle.exchange_model.proofs.Counted.{kind_depth-out, inner_spots-out}
 use Rattle.text_events.specs.Note.{Event, Head, Nothing, Begins}
-use Rattle.text_events.specs.Walk.{OwnWalk, StmtWalk, add, first_head, list_walk, stmt_walk, kind_walk}
+use Rattle.text_events.specs.Walk.{OwnWalk, StmtWalk, add, first_head, list_walk, stmt_walk}
+use Rattle.text_events.specs.Walk.{kind_walk}
 use Rattle.first_fault.proofs.First.{total_push}
 use Rattle.text_rules.specs.declared.rule.BlockRule.TheVariants as rule
 use Rattle.text_soundness.specs.Fine.{Text}
@@ -20,12 +23,14 @@ use Rattle.resolved_block.specs.Statements.{typed_kind, typed_stmt, typed_list}
 use Rattle.exchange_model.specs.Everywhere.{Layer, Everywhere, AllIn, PartsKeep}
 use Rattle.exchange_model.proofs.Everywhere.{everywhere-built}
 use Rattle.text_soundness.specs.Shares.{PartsStand, ChoosesOnce}
-use Rattle.text_soundness.proofs.BuiltText.{statement_in, statements_in, Begin, begin_all, begin_then, begin_add, Sound, sound_front, sound_last}
+use Rattle.text_soundness.proofs.BuiltText.{statement_in, statements_in, Begin, begin_all}
+use Rattle.text_soundness.proofs.BuiltText.{begin_then, begin_add, Sound, sound_front, sound_last}
 use Rattle.text_events.proofs.Layers.{stmt_walk-out}
 use Rattle.resolved_block.proofs.Turns.{typed_stmt-at}
 use Rattle.text_soundness.proofs.Operands.{gives_few}
 use Rattle.text_soundness.proofs.OperandsLists.{ExprsGood}
-use Rattle.text_soundness.proofs.Pairs.{asked, retrieved_by, Meet, Together, meets_next, retrieves_asked, asks_nothing}
+use Rattle.text_soundness.proofs.Pairs.{asked, retrieved_by, Meet, Together, meets_next}
+use Rattle.text_soundness.proofs.Pairs.{retrieves_asked, asks_nothing}
 
 module _ (s : Scope) (whole : List Event) (blocks : List TreeBlock) where
   abbrev pub text : Text
@@ -64,12 +69,18 @@ module _ (s : Scope) (whole : List Event) (blocks : List TreeBlock) where
     pub sound : (before after : Head) (out : List Event) → Sound text (walk.walk before after out) → StmtSound walk.head m before after
 
   -- a statement is made of its kind
-  pub stmt_made : (n line : ℕ) (head : Head) (w : OwnWalk) (m : MStmt) → KindMade n head w m.kind → StmtMade n (record { head = head; walk = λ before after out. w (length out) (add line (Begins head before after) out) }) m
+  pub stmt_made : (n line : ℕ) (head : Head) (w : OwnWalk) (m : MStmt) → KindMade n head w m.kind
+      → StmtMade n (record {
+        head = head;
+        walk = λ before after out. w (length out)
+            (add line (Begins head before after) out);
+      }) m
   stmt_made n line head w m k = record {
     depth = subst (λ d. d ≤ n) (sym (kind_depth-out m.kind ∙ ap parts_depth k.is)) k.depth;
     inner = ap is_inner k.is ∙ k.inner;
     retrieves = ap retrieved k.is ∙ k.retrieves;
-    begins = λ before after out. begin_then out (add line (Begins head before after) out) _ (begin_add out out line (Begins head before after) (begin_all out)) (k.exprs.gives (length out) _).begins;
+    begins = λ before after out. begin_then out (add line (Begins head before after) out) _
+        (begin_add out out line (Begins head before after) (begin_all out)) (k.exprs.gives (length out) _).begins;
     told = λ before after out.
         let begun = add line (Begins head before after) out in
         let inside : length (inner_spots m.kind) ≡ length (parts_spots k.one) = ap length (inner_spots-out m.kind ∙ ap parts_spots k.is) in
@@ -78,7 +89,12 @@ module _ (s : Scope) (whole : List Event) (blocks : List TreeBlock) where
         let begun = add line (Begins head before after) out in
         let gives = k.exprs.gives (length out) begun in
         let kept = k.sound (length out) begun sound in
-        let stand : PartsStand s k.one = record { chosen = kept.chosen; shallow = k.exprs.shallow; few = gives_few text (length out) _ begun _ gives sound; lists = kept.lists } in
+        let stand : PartsStand s k.one = record {
+          chosen = kept.chosen;
+          shallow = k.exprs.shallow;
+          few = gives_few text (length out) _ begun _ gives sound;
+          lists = kept.lists;
+        } in
         record {
           every = everywhere-built (PartsStand s) m.kind (subst (PartsStand s) (sym k.is) stand) (subst (PartsKeep (PartsStand s)) (sym k.is) kept.parts);
           awaits = ap (awaited s.signals) k.is ∙ kept.awaits;
@@ -108,19 +124,28 @@ module _ (s : Scope) (whole : List Event) (blocks : List TreeBlock) where
     sound = λ before out sound meet. record { all = tt; paired = asks_nothing s.signals before Nothing refl meet };
   }
 
-  pub list_more : (n : ℕ) (walk : StmtWalk) (walks : List StmtWalk) (m : MStmt) (ms : List MStmt) → StmtMade n walk m → ListMade n walks ms → ListMade n (walk ∷ walks) (m ∷ ms)
+  pub list_more : (n : ℕ) (walk : StmtWalk) (walks : List StmtWalk) (m : MStmt) (ms : List MStmt) → StmtMade n walk m
+      → ListMade n walks ms → ListMade n (walk ∷ walks) (m ∷ ms)
   list_more n walk walks m ms x rest = record {
     depth = max-le x.depth rest.depth;
     inner = (x.inner, rest.inner);
     begins = λ before out. begin_then out _ _ (x.begins before (first_head walks) out) (rest.begins walk.head _);
-    told = λ before out. omega (arith, length-append (stmt_spots m) (spots ms), x.told before (first_head walks) out, rest.told walk.head (walk.walk before (first_head walks) out));
+    told = λ before out. omega (
+      arith,
+      length-append (stmt_spots m) (spots ms),
+      x.told before (first_head walks) out,
+      rest.told walk.head (walk.walk before (first_head walks) out),
+    );
     sound = λ before out sound meet.
         let next = walk.walk before (first_head walks) out in
         let here = x.sound before (first_head walks) out (sound_front text next _ (rest.begins walk.head next) sound) in
         let others = rest.sound walk.head next sound (meets_next s.signals walk.head before (first_head walks) here.together) in
         record {
           all = (here.every, others.all);
-          paired = (x.retrieves ∙ retrieves_asked s.signals walk.head before (first_head walks) here.together meet, subst (λ a. ArePaired s.signals a ms) (sym here.awaits) others.paired);
+          paired = (
+            x.retrieves ∙ retrieves_asked s.signals walk.head before (first_head walks) here.together meet,
+            subst (λ a. ArePaired s.signals a ms) (sym here.awaits) others.paired,
+          );
         };
   }
 
@@ -133,7 +158,8 @@ module _ (s : Scope) (whole : List Event) (blocks : List TreeBlock) where
 
     pub list_made : (n : ℕ) (xs : List Stmt) → AllByRecursion (IsMade n) xs → AreMade n xs
     list_made n [] all p = list_none n
-    list_made n (x ∷ xs) all p = list_more n (stmt_walk x) (map stmt_walk xs) (typed_stmt env x p).0 (typed_list env xs (typed_stmt env x p).1).0 (all.0 p) (list_made n xs all.1 (typed_stmt env x p).1)
+    list_made n (x ∷ xs) all p = list_more n (stmt_walk x) (map stmt_walk xs) (typed_stmt env x p).0
+        (typed_list env xs (typed_stmt env x p).1).0 (all.0 p) (list_made n xs all.1 (typed_stmt env x p).1)
 
     -- a statement is made where its kind is
     pub is_made : (n : ℕ) (x : Stmt) → ((p : ℕ) → KindMade n (kind_walk x.kind).head (kind_walk x.kind).walk (typed_kind env x.kind p).0) → IsMade n x
@@ -141,5 +167,9 @@ module _ (s : Scope) (whole : List Event) (blocks : List TreeBlock) where
         let k = typed_kind env x.kind (p + 1) in
         let m : MStmt = record { point = p; line = x.line; kind = k.0 } in
         subst (λ w. StmtMade n w (typed_stmt env x p).0) (sym (stmt_walk-out x))
-        (subst (λ (t : MStmt × ℕ). StmtMade n (record { head = (kind_walk x.kind).head; walk = λ before after out. (kind_walk x.kind).walk (length out) (add x.line (Begins (kind_walk x.kind).head before after) out) }) t.0) (sym (typed_stmt-at env x p))
+        (subst (λ (t : MStmt × ℕ). StmtMade n (record {
+          head = (kind_walk x.kind).head;
+          walk = λ before after out. (kind_walk x.kind).walk (length out)
+              (add x.line (Begins (kind_walk x.kind).head before after) out);
+        }) t.0) (sym (typed_stmt-at env x p))
         (stmt_made n x.line (kind_walk x.kind).head (kind_walk x.kind).walk m (made (p + 1))))

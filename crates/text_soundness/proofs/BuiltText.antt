@@ -1,5 +1,7 @@
 -- Fronts of a text of events: where the whole text breaks no rule, no front of it does.
-use Rattle.std.proofs.Common.{◌≡◌, ℕ, ◌+◌, ◌≤◌, Bool, true, false, List, [], ◌∷◌, ◌++◌, length, take, Option, Some, None, refl, sym, ◌∙◌, ap, arith, append_assoc, append-nil, slice_get, nat_eq, length-append, ⊎_elim}
+use Rattle.std.proofs.Common.{◌≡◌, ℕ, ◌+◌, ◌≤◌, Bool, true, false, List, [], ◌∷◌, ◌++◌, length}
+use Rattle.std.proofs.Common.{take, Option, Some, None, refl, sym, ◌∙◌, ap, arith, append_assoc}
+use Rattle.std.proofs.Common.{append-nil, slice_get, nat_eq, length-append, ⊎_elim}
 use Rattle.std.proofs.Math.Nat.{eq-or-lt_of_le}
 use Rattle.std.proofs.lemmas.Bool.{eqb-true, eqb-false}
 use Rattle.std.specs.Prelude.{if◌then◌else◌}
@@ -50,16 +52,22 @@ pub record Sound (text : Text) (es : List Event) : Type 0 where
   pub each : (before after : List Event) (e : Event) (r : Rule) → es ≡ before ++ e ∷ after → broken_at r (known_of text before) e ≡ false
 
 pub sound_front : (text : Text) (a b : List Event) → Begin a b → Sound text b → Sound text a
-sound_front text a b x s = record { each = λ before after e r is. s.each before (after ++ x.more) e r (x.same ∙ ap (λ es. es ++ x.more) is ∙ append_assoc before (e ∷ after) x.more) }
+sound_front text a b x s = record {
+  each = λ before after e r is. s.each before (after ++ x.more) e r
+      (x.same ∙ ap (λ es. es ++ x.more) is ∙ append_assoc before (e ∷ after) x.more);
+}
 
 -- the event that was put last
-pub sound_last : (text : Text) (out : List Event) (line : ℕ) (note : Note) (r : Rule) → Sound text (add line note out) → broken_at r (known_of text out) (record { line = line; note = note }) ≡ false
+pub sound_last : (text : Text) (out : List Event) (line : ℕ) (note : Note) (r : Rule) → Sound text (add line note out)
+    → broken_at r (known_of text out) (record { line = line; note = note }) ≡ false
 sound_last text out line note r s = s.each out [] (record { line = line; note = note }) r refl
 
 pub sound_whole : (text : Text) → IsFineText text → Sound text text.whole
 sound_whole text f = record {
   each = λ before after e r is.
-      let at : slice_get (before ++ e ∷ after) (length before) ≡ Some e = slice_get_read (before ++ e ∷ after) (length (before ++ e ∷ after)) (length before) e refl (omega (arith, length-append before (e ∷ after))) (sym (get_or-append_seam before e after e)) in
+      let at : slice_get (before ++ e ∷ after) (length before)
+      ≡ Some e = slice_get_read (before ++ e ∷ after) (length (before ++ e ∷ after)) (length before) e refl
+      (omega (arith, length-append before (e ∷ after))) (sym (get_or-append_seam before e after e)) in
       let front : take (length before) text.whole ≡ before = ap (take (length before)) is ∙ take-append_seam before (e ∷ after) in
       ap (λ es. broken_at r (known_of text es) e) (sym front) ∙ f.each (length before) e r (ap (λ es. slice_get es (length before)) is ∙ at);
 }
@@ -74,14 +82,18 @@ below_limit : (n : ℕ) → n ≤ 64 → nat_eq n 64 ≡ false → n + 1 ≤ 64
 below_limit n few other = ⊎_elim (λ same. absurd (eqb-false n 64 other same)) (λ less. omega (arith, less)) (eq-or-lt_of_le few)
 
 -- at most 64 are of one statement
-few_more : (text : Text) (o : ℕ) (before after : List Event) → Sound text (before ++ after) → count (counts_for o) before ≤ 64 → count (counts_for o) (before ++ after) ≤ 64
+few_more : (text : Text) (o : ℕ) (before after : List Event) → Sound text (before ++ after)
+    → count (counts_for o) before ≤ 64 → count (counts_for o) (before ++ after) ≤ 64
 few_more text o before [] s few = rw (append-nil before) few
 few_more text o before (e ∷ after) s few =
     let regroup : before ++ e ∷ after ≡ (before ++ e ∷ []) ++ after = sym (append_assoc before (e ∷ []) after) in
-    let one : count (counts_for o) (before ++ e ∷ []) ≤ 64 = rw (count_append (counts_for o) before (e ∷ [])) (step (operand_of e.note) (s.each before after e rule.Operands refl)) in
+    let one : count (counts_for o) (before ++ e ∷ [])
+    ≤ 64 = rw (count_append (counts_for o) before (e ∷ []))
+    (step (operand_of e.note) (s.each before after e rule.Operands refl)) in
     rw regroup (few_more text o (before ++ e ∷ []) after (rw (← regroup) s) one)
   where
-    counted : (p : ℕ) (b : Bool) → nat_eq o p ≡ b → nat_eq (count (counts_for p) before) 64 ≡ false → count (counts_for o) before + ((if b then 1 else 0) + 0) ≤ 64
+    counted : (p : ℕ) (b : Bool) → nat_eq o p ≡ b → nat_eq (count (counts_for p) before) 64 ≡ false
+        → count (counts_for o) before + ((if b then 1 else 0) + 0) ≤ 64
     counted p true is h = omega (arith, below_limit (count (counts_for o) before) few (ap (λ q. nat_eq (count (counts_for q) before) 64) (eqb-true o p is) ∙ h))
     counted p false is h = omega (arith, few)
 

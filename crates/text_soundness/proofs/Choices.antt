@@ -1,5 +1,6 @@
 -- The choices of a CASE: where no event breaks a rule, their numbers differ.
-use Rattle.std.proofs.Common.{◌≡◌, ℕ, ◌≤◌, Bool, false, ◌&&◌, ◌||◌, List, [], ◌∷◌, ◌++◌, length, ◌+◌, map, refl, sym, ◌∙◌, ap, subst, arith, nat_eq, length-append}
+use Rattle.std.proofs.Common.{◌≡◌, ℕ, ◌≤◌, Bool, false, ◌&&◌, ◌||◌, List, [], ◌∷◌, ◌++◌, length}
+use Rattle.std.proofs.Common.{◌+◌, map, refl, sym, ◌∙◌, ap, subst, arith, nat_eq, length-append}
 use Rattle.std.specs.List.{AllByRecursion, IsDistinct}
 use Rattle.std.proofs.Math.Bool.{or_assoc}
 use Rattle.std.proofs.Math.Nat.{max-le}
@@ -8,7 +9,8 @@ use Rattle.std.proofs.lemmas.Map.Keys.{IsDistinct-cons}
 use Rattle.first_fault.specs.First.{any}
 use Rattle.plex_ast.specs.declared.block.Block.{Block as TreeBlock}
 use Rattle.plex_ast.specs.declared.stmt.When.{When, out-When}
-use Rattle.exchange_model.specs.declared.stmt.When.{When as MWhen, out-When as out-MWhen, roll-When, out-roll-When}
+use Rattle.exchange_model.specs.declared.stmt.When.{When as MWhen, out-When as out-MWhen, roll-When}
+use Rattle.exchange_model.specs.declared.stmt.When.{out-roll-When}
 use Rattle.exchange_model.specs.Fits.{Scope, InnerFits}
 use Rattle.exchange_model.specs.Inside.{most, text_depth, spots, joined}
 use Rattle.exchange_model.specs.PartCounts.{when_depth, when_spots}
@@ -22,7 +24,9 @@ use Rattle.resolved_block.specs.Names.{Env}
 use Rattle.resolved_block.specs.Statements.{in_turn, typed_list, typed_when}
 use Rattle.exchange_model.specs.Everywhere.{AllIn}
 use Rattle.text_soundness.specs.Shares.{PartsStand}
-use Rattle.text_soundness.proofs.BuiltText.{statement_in, statements_in, begin_total, Begin, begin_all, begin_then, begin_add, Sound, sound_front, sound_last}
+use Rattle.text_soundness.proofs.BuiltText.{statement_in, statements_in, begin_total, Begin}
+use Rattle.text_soundness.proofs.BuiltText.{begin_all, begin_then, begin_add, Sound, sound_front}
+use Rattle.text_soundness.proofs.BuiltText.{sound_last}
 use Rattle.text_events.proofs.Layers.{when_walk-out}
 use Rattle.resolved_block.proofs.Turns.{typed_when-at}
 use Rattle.text_soundness.proofs.BuiltLists.{text, AreMade}
@@ -70,19 +74,38 @@ module _ (s : Scope) (whole : List Event) (blocks : List TreeBlock) where
     pub told : (o : ℕ) (out : List Event) → statements_in out + length (when_spots w) ≤ statements_in (walk o out)
     pub sound : (o : ℕ) (out : List Event) → Sound (text s whole blocks) (walk o out) → WhenSound o out (walk o out) w
 
-  others : (o : ℕ) (out next : List Event) (w : MWhen) (ns : List ℕ) → WhenSound o out next w → AllByRecursion (λ n. any (chooses o n) next ≡ false) ns → AllByRecursion (λ n. any (chooses o n) out ≡ false) ns × AllByRecursion (λ n. nat_eq (out-MWhen w).number n ≡ false) ns
+  others : (o : ℕ) (out next : List Event) (w : MWhen) (ns : List ℕ) → WhenSound o out next w
+      → AllByRecursion (λ n. any (chooses o n) next ≡ false) ns
+      → AllByRecursion (λ n. any (chooses o n) out ≡ false) ns
+      × AllByRecursion (λ n. nat_eq (out-MWhen w).number n ≡ false) ns
   others o out next w [] here all = (tt, tt)
   others o out next w (n ∷ ns) here all =
       let number = (out-MWhen w).number in
       let chosen = any_front (chooses o n) (add here.line (Chooses o number) out) next here.chosen all.0 in
-      let more = others o out next w ns here all.1 in
-      ((any_front (chooses o n) out (add here.line (Chooses o number) out) (begin_add out out here.line (Chooses o number) (begin_all out)) chosen, more.0), (other_number o n number (last_says (chooses o n) out (record { line = here.line; note = Chooses o number }) chosen), more.1))
+      let more = others o out next w ns here all.1 in (
+        (
+          any_front (chooses o n) out (add here.line (Chooses o number) out)
+              (begin_add out out here.line (Chooses o number) (begin_all out)) chosen,
+          more.0,
+        ),
+        (
+          other_number o n number (last_says (chooses o n) out (record { line = here.line; note = Chooses o number })
+              chosen),
+          more.1,
+        ),
+      )
 
   pub whens_none : (n : ℕ) → WhensMade n [] []
   unfolding IsDistinct
-  whens_none n = record { depth = omega arith; begins = λ o out. begin_all out; told = λ o out. omega arith; sound = λ o out sound. record { parts = tt; fits = tt; fresh = tt; once = tt } }
+  whens_none n = record {
+    depth = omega arith;
+    begins = λ o out. begin_all out;
+    told = λ o out. omega arith;
+    sound = λ o out sound. record { parts = tt; fits = tt; fresh = tt; once = tt };
+  }
 
-  pub whens_more : (n : ℕ) (walk : OwnWalk) (walks : List OwnWalk) (w : MWhen) (ws : List MWhen) → WhenMade n walk w → WhensMade n walks ws → WhensMade n (walk ∷ walks) (w ∷ ws)
+  pub whens_more : (n : ℕ) (walk : OwnWalk) (walks : List OwnWalk) (w : MWhen) (ws : List MWhen) → WhenMade n walk w
+      → WhensMade n walks ws → WhensMade n (walk ∷ walks) (w ∷ ws)
   whens_more n walk walks w ws x rest = record {
     depth = max-le x.depth rest.depth;
     begins = λ o out. begin_then out (walk o out) _ (x.begins o out) (rest.begins o (walk o out));
@@ -91,7 +114,12 @@ module _ (s : Scope) (whole : List Event) (blocks : List TreeBlock) where
         let here = x.sound o out (sound_front (text s whole blocks) (walk o out) _ (rest.begins o (walk o out)) sound) in
         let more = rest.sound o (walk o out) sound in
         let apart = others o out (walk o out) w (map (λ w. (out-MWhen w).number) ws) here more.fresh in
-        record { parts = (here.parts, more.parts); fits = (here.fits, more.fits); fresh = (here.fresh, apart.0); once = IsDistinct-cons nat_eq _ _ apart.1 more.once };
+        record {
+          parts = (here.parts, more.parts);
+          fits = (here.fits, more.fits);
+          fresh = (here.fresh, apart.0);
+          once = IsDistinct-cons nat_eq _ _ apart.1 more.once;
+        };
   }
 
   module _ (env : Env) where
@@ -105,22 +133,40 @@ module _ (s : Scope) (whole : List Event) (blocks : List TreeBlock) where
         let begun = λ (o : ℕ) (out : List Event). add number.line (Chooses o number.value) out in
         subst (λ (t : MWhen × ℕ). WhenMade n (when_walk w) t.0) (sym (typed_when-at env w p)) (record {
           depth = subst (λ l. text_depth l.body ≤ n) (sym is) made.depth;
-          begins = λ o out. subst (Begin out) (sym (when_walk-out w o out)) (begin_then out (begun o out) _ (begin_add out out number.line (Chooses o number.value) (begin_all out)) (made.begins Nothing (begun o out)));
-          told = λ o out. subst (λ l. statements_in out + length (spots l.body) ≤ statements_in (when_walk w o out)) (sym is) (subst (λ e. statements_in out + length (spots list.0) ≤ statements_in e) (sym (when_walk-out w o out))
-              (omega (arith, begin_total statement_in out (begun o out) (begin_add out out number.line (Chooses o number.value) (begin_all out)), made.told Nothing (begun o out))));
+          begins = λ o out. subst (Begin out) (sym (when_walk-out w o out))
+              (begin_then out (begun o out) _ (begin_add out out number.line (Chooses o number.value) (begin_all out))
+              (made.begins Nothing (begun o out)));
+          told = λ o out. subst (λ l. statements_in out + length (spots l.body) ≤ statements_in (when_walk w o out))
+              (sym is) (subst (λ e. statements_in out + length (spots list.0) ≤ statements_in e)
+              (sym (when_walk-out w o out))
+              (omega (
+                arith,
+                begin_total statement_in out (begun o out)
+                    (begin_add out out number.line (Chooses o number.value) (begin_all out)),
+                made.told Nothing
+                    (begun o out),
+              )));
           sound = λ o out sound.
-              let walked : Sound (text s whole blocks) (body_walk (map stmt_walk (out-When w).body) (begun o out)) = subst (Sound (text s whole blocks)) (when_walk-out w o out) sound in
+              let walked : Sound (text s whole blocks) (body_walk (map stmt_walk (out-When w).body) (begun o out)) =
+              subst (Sound (text s whole blocks)) (when_walk-out w o out) sound in
               let kept = made.sound Nothing (begun o out) walked refl in
               let begins = made.begins Nothing (begun o out) in
               record {
                 parts = subst (λ l. AllIn (PartsStand s) l.body) (sym is) kept.all;
                 fits = subst (λ l. InnerFits s l.body) (sym is) (made.inner, kept.paired);
-                fresh = subst (λ l. any (chooses o l.number) out ≡ false) (sym is) (sound_last (text s whole blocks) out number.line (Chooses o number.value) rule.ChosenTwice (sound_front (text s whole blocks) (begun o out) _ begins walked));
+                fresh = subst (λ l. any (chooses o l.number) out ≡ false) (sym is)
+                    (sound_last (text s whole blocks) out number.line (Chooses o number.value) rule.ChosenTwice
+                    (sound_front (text s whole blocks) (begun o out) _ begins walked));
                 line = number.line;
-                chosen = subst (λ l. Begin (add number.line (Chooses o l.number) out) (when_walk w o out)) (sym is) (subst (Begin (begun o out)) (sym (when_walk-out w o out)) begins);
+                chosen = subst (λ l. Begin (add number.line (Chooses o l.number) out) (when_walk w o out)) (sym is)
+                    (subst (Begin (begun o out)) (sym (when_walk-out w o out)) begins);
               };
         })
 
-    pub whens_made : (n : ℕ) (ws : List When) (p : ℕ) → AllByRecursion (λ w. AreMade s whole blocks env n (out-When w).body) ws → WhensMade n (map when_walk ws) (in_turn (map (typed_when env) ws) p).0
+    pub whens_made : (n : ℕ) (ws : List When) (p : ℕ)
+        → AllByRecursion (λ w. AreMade s whole blocks env n (out-When w).body) ws
+        → WhensMade n (map when_walk ws) (in_turn (map (typed_when env) ws) p).0
     whens_made n [] p all = whens_none n
-    whens_made n (w ∷ ws) p all = whens_more n (when_walk w) (map when_walk ws) (typed_when env w p).0 (in_turn (map (typed_when env) ws) (typed_when env w p).1).0 (when_made n w p all.0) (whens_made n ws (typed_when env w p).1 all.1)
+    whens_made n (w ∷ ws) p all = whens_more n (when_walk w) (map when_walk ws) (typed_when env w p).0
+        (in_turn (map (typed_when env) ws) (typed_when env w p).1).0 (when_made n w p all.0)
+        (whens_made n ws (typed_when env w p).1 all.1)

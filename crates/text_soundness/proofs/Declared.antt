@@ -1,5 +1,6 @@
 -- What a block that breaks no rule declares and may send is that of a block of an exchange.
-use Rattle.std.proofs.Common.{◌≡◌, ℕ, Bool, true, false, List, [], ◌∷◌, ◌++◌, refl, arith, slice_get}
+use Rattle.std.proofs.Common.{◌≡◌, ℕ, Bool, true, false, List, [], ◌∷◌, ◌++◌, refl, arith}
+use Rattle.std.proofs.Common.{slice_get}
 use Rattle.std.specs.Prelude.{nat_eq, fold, if◌then◌else◌}
 use Rattle.std.specs.List.{AllByRecursion, IsDistinct, list_any, filter_map}
 use Rattle.std.proofs.lemmas.Cmp.{nat_eq_equiv}
@@ -21,7 +22,8 @@ all_push : (P : ℕ → Type 0) (xs : List ℕ) (y : ℕ) → AllByRecursion P x
 all_push P [] y all here = (here, tt)
 all_push P (x ∷ rest) y all here = (all.0, all_push P rest y all.1 here)
 
-joins_all : (P : ℕ → Type 0) (numbers : List ℕ) (n : ℕ) (b : Bool) → AllByRecursion P numbers → P n → AllByRecursion P (if b then numbers else numbers ++ n ∷ [])
+joins_all : (P : ℕ → Type 0) (numbers : List ℕ) (n : ℕ) (b : Bool) → AllByRecursion P numbers → P n
+    → AllByRecursion P (if b then numbers else numbers ++ n ∷ [])
 joins_all P numbers n true all here = all
 joins_all P numbers n false all here = all_push P numbers n all here
 
@@ -29,7 +31,8 @@ mentions_all : (P : ℕ → Type 0) (named numbers : List ℕ) → AllByRecursio
 mentions_all P [] numbers all more = all
 mentions_all P (n ∷ rest) numbers all more = mentions_all P rest (joined_once numbers n) (joins_all P numbers n (list_any (nat_eq n) numbers) all more.0) more.1
 
-joins_once : (numbers : List ℕ) (n : ℕ) (b : Bool) → list_any (nat_eq n) numbers ≡ b → IsDistinct nat_eq numbers → IsDistinct nat_eq (if b then numbers else numbers ++ n ∷ [])
+joins_once : (numbers : List ℕ) (n : ℕ) (b : Bool) → list_any (nat_eq n) numbers ≡ b → IsDistinct nat_eq numbers
+    → IsDistinct nat_eq (if b then numbers else numbers ++ n ∷ [])
 joins_once numbers n true is once = once
 joins_once numbers n false is once = IsDistinct-push nat_eq_equiv numbers n once is
 
@@ -41,7 +44,8 @@ none_once : IsDistinct nat_eq []
 unfolding IsDistinct
 none_once = tt
 
-pub blocks_are_declared : (signals : List SignalKind) (blocks : List TreeBlock) (first : First) (b : TreeBlock) → IsFineBlock signals blocks b → IsDeclared signals (typed_of signals blocks first b).block
+pub blocks_are_declared : (signals : List SignalKind) (blocks : List TreeBlock) (first : First) (b : TreeBlock)
+    → IsFineBlock signals blocks b → IsDeclared signals (typed_of signals blocks first b).block
 unfolding typed_of
 blocks_are_declared signals blocks first b fine =
     let right = block_right signals blocks b fine in

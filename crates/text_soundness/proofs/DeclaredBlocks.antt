@@ -1,5 +1,6 @@
 -- The declarations and the survey of a block that breaks no rule.
-use Rattle.std.proofs.Common.{◌≡◌, ℕ, ◌+◌, ◌≤◌, false, not, List, [], ◌∷◌, length, map, Option, Some, None, arith, slice_get}
+use Rattle.std.proofs.Common.{◌≡◌, ℕ, ◌+◌, ◌≤◌, false, not, List, [], ◌∷◌, length, map, Option}
+use Rattle.std.proofs.Common.{Some, None, arith, slice_get}
 use Rattle.std.specs.List.{AllByRecursion, cons_option, filter_map}
 use Rattle.std.specs.Option.{unwrap_or}
 use Rattle.std.proofs.lemmas.Bool.{eqb-false}
@@ -11,7 +12,8 @@ use Rattle.plex_ast.specs.declared.block.Survey.{Survey}
 use Rattle.plex_ast.specs.declared.block.SurveyKind.{SurveyKind}
 use Rattle.plex_ast.specs.declared.block.SurveyKind.TheVariants as surveys
 use Rattle.exchange_model.specs.declared.signal.SignalKind.{SignalKind}
-use Rattle.exchange_model.specs.declared.signal.SignalKind.TheVariants.{Buffered, Direct, Combined, Answer, Outside}
+use Rattle.exchange_model.specs.declared.signal.SignalKind.TheVariants.{Buffered, Direct, Combined}
+use Rattle.exchange_model.specs.declared.signal.SignalKind.TheVariants.{Answer, Outside}
 use Rattle.exchange_model.specs.declared.block.Variable.{Variable as AVariable}
 use Rattle.exchange_model.specs.declared.block.File.{File as AFile}
 use Rattle.exchange_model.specs.Kept.{VariableFits, FileFits, CanBeSent}
@@ -21,13 +23,18 @@ use Rattle.text_events.specs.declared.role.Meaning.TheVariants as meaning
 use Rattle.text_events.specs.Note as note
 use Rattle.text_events.specs.declared.role.Role.TheVariants as role
 use Rattle.text_events.specs.Walk.{add, in_turn}
-use Rattle.text_events.specs.Blocks.{variables_of, temporaries_of, files_of, cells_of, decl_walk, decls_walk, survey_walk, survey_walk_at, block_head, block_body}
+use Rattle.text_events.specs.Blocks.{variables_of, temporaries_of, files_of, cells_of, decl_walk}
+use Rattle.text_events.specs.Blocks.{decls_walk, survey_walk, survey_walk_at, block_head}
+use Rattle.text_events.specs.Blocks.{block_body}
 use Rattle.text_rules.specs.Blocks.{stands}
 use Rattle.text_soundness.specs.Fine.{IsFineBlock}
 use Rattle.resolved_block.specs.Names.{Env}
-use Rattle.resolved_block.specs.Blocks.{kind_variable, variable_in, kind_temporary, temporary_in, kind_files, files_from, kind_sent, sent_in}
-use Rattle.text_soundness.proofs.MeaningsBlocks.{decls_said, decls_add, surveys_quiet, labels_said, items_add}
-use Rattle.text_soundness.proofs.DeclaredRights.{AllRight, all_right, at_add, before_add, before_adds, variable_fits, fields_fit, size_kept}
+use Rattle.resolved_block.specs.Blocks.{kind_variable, variable_in, kind_temporary, temporary_in}
+use Rattle.resolved_block.specs.Blocks.{kind_files, files_from, kind_sent, sent_in}
+use Rattle.text_soundness.proofs.MeaningsBlocks.{decls_said, decls_add, surveys_quiet, labels_said}
+use Rattle.text_soundness.proofs.MeaningsBlocks.{items_add}
+use Rattle.text_soundness.proofs.DeclaredRights.{AllRight, all_right, at_add, before_add}
+use Rattle.text_soundness.proofs.DeclaredRights.{before_adds, variable_fits, fields_fit, size_kept}
 
 -- declarations, after so many temporaries
 pub record DeclsFit (vs : List AVariable) (ts : List (List ℕ)) (fs : List AFile) (t : ℕ) : Type 0 where
@@ -35,9 +42,12 @@ pub record DeclsFit (vs : List AVariable) (ts : List (List ℕ)) (fs : List AFil
   pub temporaries : t + length ts ≤ 24
   pub files : AllByRecursion FileFits fs
 
-kind_fits : (kind : DeclKind) (rest : List Decl) (v t f g : ℕ) (signals : List SignalKind) (out : List Event) → t ≤ 24 → AllRight signals (decl_walk kind v t f out)
-    → ((h : ℕ) → t + temporaries_of kind ≤ 24 → DeclsFit (filter_map variable_in rest) (filter_map temporary_in rest) (files_from rest h) (t + temporaries_of kind))
-    → DeclsFit (cons_option (kind_variable kind) (filter_map variable_in rest)) (cons_option (kind_temporary kind) (filter_map temporary_in rest)) (kind_files kind g (files_from rest)) t
+kind_fits : (kind : DeclKind) (rest : List Decl) (v t f g : ℕ) (signals : List SignalKind) (out : List Event) → t ≤ 24
+    → AllRight signals (decl_walk kind v t f out)
+    → ((h : ℕ) → t + temporaries_of kind ≤ 24 → DeclsFit (filter_map variable_in rest) (filter_map temporary_in rest)
+    (files_from rest h) (t + temporaries_of kind))
+    → DeclsFit (cons_option (kind_variable kind) (filter_map variable_in rest))
+    (cons_option (kind_temporary kind) (filter_map temporary_in rest)) (kind_files kind g (files_from rest)) t
 kind_fits (decls.Variable n w i clear) rest v t f g signals out few right more =
     let r = more g (omega (arith, few)) in
     record {
@@ -63,7 +73,9 @@ kind_fits (decls.File forlopp n size fields) rest v t f g signals out few right 
       files = (record { some = sized.0; few = sized.1; fields = walked.fits }, r.files);
     }
 
-pub decls_fit : (ds : List Decl) (v t f g : ℕ) (signals : List SignalKind) (out : List Event) → t ≤ 24 → AllRight signals (decls_walk ds v t f out) → DeclsFit (filter_map variable_in ds) (filter_map temporary_in ds) (files_from ds g) t
+pub decls_fit : (ds : List Decl) (v t f g : ℕ) (signals : List SignalKind) (out : List Event) → t ≤ 24
+    → AllRight signals (decls_walk ds v t f out)
+    → DeclsFit (filter_map variable_in ds) (filter_map temporary_in ds) (files_from ds g) t
 unfolding files_from
 decls_fit [] v t f g signals out few right = record { variables = tt; temporaries = omega (arith, few); files = tt }
 decls_fit (d ∷ rest) v t f g signals out few right =
@@ -85,19 +97,24 @@ can_be_sent (Some (Combined name count answer)) h = tt
 can_be_sent (Some (Answer name count combined)) h = cc
 can_be_sent (Some (Outside name count)) h = tt
 
-number_sent : (signals : List SignalKind) (o : Option ℕ) → not (stands (role.Sent false) (kind_at signals o)) ≡ false → CanBeSent (slice_get signals (unwrap_or o 0))
+number_sent : (signals : List SignalKind) (o : Option ℕ) → not (stands (role.Sent false) (kind_at signals o)) ≡ false
+    → CanBeSent (slice_get signals (unwrap_or o 0))
 number_sent signals None h = cc
 number_sent signals (Some i) h = can_be_sent (slice_get signals i) h
 
 abbrev pub IsSent : List SignalKind → ℕ → Type 0
 IsSent signals n = CanBeSent (slice_get signals n)
 
-survey_sent : (env : Env) (line : ℕ) (kind : SurveyKind) (out : List Event) (rest : List ℕ) → AllRight env.signals (survey_walk_at kind line out) → AllByRecursion (IsSent env.signals) rest → AllByRecursion (IsSent env.signals) (cons_option (kind_sent env kind) rest)
+survey_sent : (env : Env) (line : ℕ) (kind : SurveyKind) (out : List Event) (rest : List ℕ)
+    → AllRight env.signals (survey_walk_at kind line out) → AllByRecursion (IsSent env.signals) rest
+    → AllByRecursion (IsSent env.signals) (cons_option (kind_sent env kind) rest)
 survey_sent env line (surveys.Receive s) out rest right more = more
 survey_sent env line (surveys.Send s) out rest right more =
     (number_sent env.signals (number_in env.signals s.name) (at_add env.signals s.line (note.Names s.name (role.Sent false)) out right).kind, more)
 
-pub surveys_sent : (env : Env) (ss : List Survey) (out : List Event) → AllRight env.signals (in_turn (map survey_walk ss) out) → AllByRecursion (IsSent env.signals) (filter_map (sent_in env) ss)
+pub surveys_sent : (env : Env) (ss : List Survey) (out : List Event)
+    → AllRight env.signals (in_turn (map survey_walk ss) out)
+    → AllByRecursion (IsSent env.signals) (filter_map (sent_in env) ss)
 surveys_sent env [] out right = tt
 surveys_sent env (s ∷ rest) out right =
     let after = survey_walk s out in
@@ -114,7 +131,9 @@ pub block_right : (signals : List SignalKind) (blocks : List TreeBlock) (b : Tre
 block_right signals blocks b fine =
     let declared = decls_walk b.decls 0 0 0 (block_head b) in
     let surveyed = in_turn (map survey_walk b.surveys) declared in
-    let right_surveyed : AllRight signals surveyed = before_adds signals surveyed (block_body b) (labels_said b.items 0) (items_add b.items 0 note.Nothing surveyed) (before_add signals b.end_line note.Ends (block_body b) (all_right signals blocks b fine)) in
+    let right_surveyed : AllRight signals surveyed = before_adds signals surveyed (block_body b) (labels_said b.items 0)
+    (items_add b.items 0 note.Nothing surveyed)
+    (before_add signals b.end_line note.Ends (block_body b) (all_right signals blocks b fine)) in
     record {
       decls = before_adds signals declared surveyed [] (surveys_quiet b.surveys declared) right_surveyed;
       surveys = right_surveyed;

@@ -1,5 +1,7 @@
 -- Where no name is declared twice, the names of a block are distinct.
-use Rattle.std.proofs.Common.{◌≡◌, ℕ, ◌+◌, ◌<◌, ◌≤◌, zero, suc, Bool, true, false, List, [], ◌∷◌, ◌++◌, length, map, take, get_or, Option, Some, None, refl, sym, ◌∙◌, ap, subst, arith}
+use Rattle.std.proofs.Common.{◌≡◌, ℕ, ◌+◌, ◌<◌, ◌≤◌, zero, suc, Bool, true, false, List, [], ◌∷◌}
+use Rattle.std.proofs.Common.{◌++◌, length, map, take, get_or, Option, Some, None, refl, sym, ◌∙◌}
+use Rattle.std.proofs.Common.{ap, subst, arith}
 use Rattle.std.specs.Prelude.{if◌then◌else◌, is_some}
 use Rattle.std.specs.List.{AllByRecursion, IsDistinct, cons_option, filter_map}
 use Rattle.std.specs.Str.{bytes_eq}
@@ -25,16 +27,21 @@ use Rattle.text_events.specs.Note.{Event}
 use Rattle.text_events.specs.declared.role.Meaning.{Meaning}
 use Rattle.text_events.specs.Note.{Note}
 use Rattle.text_events.specs.Note as note
-use Rattle.text_events.specs.Blocks.{variables_of, temporaries_of, files_of, labels_of, block_events}
+use Rattle.text_events.specs.Blocks.{variables_of, temporaries_of, files_of, labels_of}
+use Rattle.text_events.specs.Blocks.{block_events}
 use Rattle.text_events.specs.Named.{naming_of}
 use Rattle.text_rules.specs.declared.rule.BlockRule.TheVariants as rule
 use Rattle.text_rules.specs.Blocks.{declared_twice}
 use Rattle.text_soundness.specs.Fine.{Text, known_of, IsFineText}
 use Rattle.text_soundness.specs.Fine.{IsFineBlock, text_of}
 use Rattle.resolved_block.specs.declared.parts.First.{First}
-use Rattle.resolved_block.specs.Blocks.{field_of, kind_variable, variable_in, kind_temporary, temporary_in, kind_files, files_from, kind_labels, labels_from, typed_of}
-use Rattle.text_soundness.proofs.MeaningsSaid.{Said, said_note, said_of, said_append, meant_by, naming_said}
-use Rattle.text_soundness.proofs.MeaningsBlocks.{fields_said, kind_said, decls_said, item_said, labels_said, block_said, block_adds}
+use Rattle.resolved_block.specs.Blocks.{field_of, kind_variable, variable_in, kind_temporary}
+use Rattle.resolved_block.specs.Blocks.{temporary_in, kind_files, files_from, kind_labels}
+use Rattle.resolved_block.specs.Blocks.{labels_from, typed_of}
+use Rattle.text_soundness.proofs.MeaningsSaid.{Said, said_note, said_of, said_append, meant_by}
+use Rattle.text_soundness.proofs.MeaningsSaid.{naming_said}
+use Rattle.text_soundness.proofs.MeaningsBlocks.{fields_said, kind_said, decls_said, item_said}
+use Rattle.text_soundness.proofs.MeaningsBlocks.{labels_said, block_said, block_adds}
 
 -- how often a name stands in a list
 abbrev pub times : List ℕ → List (List ℕ) → ℕ
@@ -90,11 +97,14 @@ undeclared n (s ∷ rest) h = later (last_of (meant_by n) rest) refl h (undeclar
     here true none e = cc
     here false none e = omega (arith, none)
 
-    later : (o : Option Meaning) → last_of (meant_by n) rest ≡ o → or_else o (meant_by n s) ≡ None → (last_of (meant_by n) rest ≡ None → times n (names_said rest) ≡ 0) → times n (names_said (s ∷ rest)) ≡ 0
+    later : (o : Option Meaning) → last_of (meant_by n) rest ≡ o → or_else o (meant_by n s) ≡ None
+        → (last_of (meant_by n) rest ≡ None → times n (names_said rest) ≡ 0) → times n (names_said (s ∷ rest)) ≡ 0
     later (Some m) is e more = cc
     later None is e more = here (bytes_eq s.name n) (more is) e
 
-one_more : (text : Text) (before : List Event) (n : List ℕ) (note : Note) → declared_twice (known_of text before) note ≡ false → times n (names_said (said_of before)) ≤ 1 → times n (names_said (said_of before ++ cons_option (said_note note) [])) ≤ 1
+one_more : (text : Text) (before : List Event) (n : List ℕ) (note : Note)
+    → declared_twice (known_of text before) note ≡ false → times n (names_said (said_of before)) ≤ 1
+    → times n (names_said (said_of before ++ cons_option (said_note note) [])) ≤ 1
 one_more text before n (note.Declares m meaning) fine once =
     let more = names_append n (said_of before) (record { name = m; meaning = meaning } ∷ []) in
     let new : (if bytes_eq m n then 1 else 0) + times n (names_said (said_of before)) ≤ 1 = here (bytes_eq m n) refl once in
@@ -123,13 +133,16 @@ once_below text fine n (suc i) low =
     let before : times n (names_said (said_of (take i text.whole))) ≤ 1 = once_below text fine n i (omega arith) in
     let next : suc i ≡ i + 1 = omega arith in
     let taken : take (suc i) text.whole ≡ take i text.whole ++ e ∷ [] = ap (λ j. take j text.whole) next ∙ take_more text.whole i none inside in
-    let said : said_of (take (suc i) text.whole) ≡ said_of (take i text.whole) ++ cons_option (said_note e.note) [] = ap said_of taken ∙ said_append (take i text.whole) (e ∷ []) in
-    let not_twice : declared_twice (known_of text (take i text.whole)) e.note ≡ false = fine.each i e rule.DeclaredTwice (slice_get-get_or text.whole i none inside) in
+    let said : said_of (take (suc i) text.whole) ≡ said_of (take i text.whole) ++ cons_option (said_note e.note) [] =
+    ap said_of taken ∙ said_append (take i text.whole) (e ∷ []) in
+    let not_twice : declared_twice (known_of text (take i text.whole)) e.note ≡ false =
+    fine.each i e rule.DeclaredTwice (slice_get-get_or text.whole i none inside) in
     subst (λ s. times n (names_said s) ≤ 1) (sym said) (one_more text (take i text.whole) n e.note not_twice before)
 
 -- the names of a block are those that its text declares
 
-fields_times : (n : List ℕ) (fields : List Field) (file place : ℕ) → times n (names_said (fields_said fields file place)) ≡ times n (variable_names (map field_of fields))
+fields_times : (n : List ℕ) (fields : List Field) (file place : ℕ)
+    → times n (names_said (fields_said fields file place)) ≡ times n (variable_names (map field_of fields))
 unfolding fields_said
 fields_times n [] file place = refl
 fields_times n (d ∷ rest) file place = let h = fields_times n rest file (place + 1) in omega (arith, h)
@@ -138,8 +151,14 @@ abbrev file_names : List AFile → List (List ℕ)
 file_names files = joined (map (λ (f : AFile). f.name ∷ variable_names f.fields) files)
 
 kind_times : (n : List ℕ) (kind : DeclKind) (rest : List Decl) (v t f g : ℕ)
-    → ((w u e h : ℕ) → times n (names_said (decls_said rest w u e)) ≡ times n (variable_names (filter_map variable_in rest)) + times n (filter_map temporary_in rest) + times n (file_names (files_from rest h)))
-    → times n (names_said (kind_said kind v t f ++ decls_said rest (v + variables_of kind) (t + temporaries_of kind) (f + files_of kind))) ≡ times n (variable_names (cons_option (kind_variable kind) (filter_map variable_in rest))) + times n (cons_option (kind_temporary kind) (filter_map temporary_in rest)) + times n (file_names (kind_files kind g (files_from rest)))
+    → ((w u e h : ℕ) → times n (names_said (decls_said rest w u e))
+    ≡ times n (variable_names (filter_map variable_in rest)) + times n (filter_map temporary_in rest)
+    + times n (file_names (files_from rest h)))
+    → times n (names_said (kind_said kind v t f
+    ++ decls_said rest (v + variables_of kind) (t + temporaries_of kind) (f + files_of kind)))
+    ≡ times n (variable_names (cons_option (kind_variable kind) (filter_map variable_in rest)))
+    + times n (cons_option (kind_temporary kind) (filter_map temporary_in rest))
+    + times n (file_names (kind_files kind g (files_from rest)))
 kind_times n (decls.Variable m w i clear) rest v t f g more = let h = more (v + 1) (t + 0) (f + 0) g in omega (arith, h)
 kind_times n (decls.Temporary m) rest v t f g more = let h = more (v + 0) (t + 1) (f + 0) g in omega (arith, h)
 kind_times n (decls.File forlopp m size fields) rest v t f g more =
@@ -148,7 +167,9 @@ kind_times n (decls.File forlopp m size fields) rest v t f g more =
     let made = times_append n (variable_names (map field_of fields)) (file_names (files_from rest (g + 1))) in
     omega (arith, h, said, made, fields_times n fields f 0)
 
-pub decls_times : (n : List ℕ) (ds : List Decl) (v t f g : ℕ) → times n (names_said (decls_said ds v t f)) ≡ times n (variable_names (filter_map variable_in ds)) + times n (filter_map temporary_in ds) + times n (file_names (files_from ds g))
+pub decls_times : (n : List ℕ) (ds : List Decl) (v t f g : ℕ)
+    → times n (names_said (decls_said ds v t f)) ≡ times n (variable_names (filter_map variable_in ds))
+    + times n (filter_map temporary_in ds) + times n (file_names (files_from ds g))
 unfolding decls_said files_from
 decls_times n [] v t f g = refl
 decls_times n (d ∷ rest) v t f g = kind_times n d.kind rest v t f g (λ w u e h. decls_times n rest w u e h)
@@ -168,7 +189,8 @@ unfolding labels_said labels_from
 labels_times n [] l place = refl
 labels_times n (x ∷ rest) l place = item_times n x.kind rest l place (λ m at. labels_times n rest m at)
 
-pub block_times : (signals : List SignalKind) (blocks : List TreeBlock) (first : First) (b : TreeBlock) (n : List ℕ) → times n (block_names (typed_of signals blocks first b).block) ≡ times n (names_said (block_said b))
+pub block_times : (signals : List SignalKind) (blocks : List TreeBlock) (first : First) (b : TreeBlock) (n : List ℕ)
+    → times n (block_names (typed_of signals blocks first b).block) ≡ times n (names_said (block_said b))
 unfolding typed_of
 block_times signals blocks first b n =
     let vs = variable_names (filter_map variable_in b.decls) in
@@ -176,9 +198,18 @@ block_times signals blocks first b n =
     let fs = file_names (files_from b.decls first.file) in
     let ls = label_names (labels_from b.items 0) in
     let said = names_append n (decls_said b.decls 0 0 0) (labels_said b.items 0) in
-    omega (arith, times_append n vs (ts ++ (fs ++ ls)), times_append n ts (fs ++ ls), times_append n fs ls, said, decls_times n b.decls 0 0 0 first.file, labels_times n b.items 0 0)
+    omega (
+      arith,
+      times_append n vs (ts ++ (fs ++ ls)),
+      times_append n ts (fs ++ ls),
+      times_append n fs ls,
+      said,
+      decls_times n b.decls 0 0 0 first.file,
+      labels_times n b.items 0 0,
+    )
 
-pub names_are_distinct : (signals : List SignalKind) (blocks : List TreeBlock) (first : First) (b : TreeBlock) → IsFineBlock signals blocks b → IsDistinct bytes_eq (block_names (typed_of signals blocks first b).block)
+pub names_are_distinct : (signals : List SignalKind) (blocks : List TreeBlock) (first : First) (b : TreeBlock)
+    → IsFineBlock signals blocks b → IsDistinct bytes_eq (block_names (typed_of signals blocks first b).block)
 names_are_distinct signals blocks first b fine = distinct_names (block_names (typed_of signals blocks first b).block) (λ n.
     let whole = block_events b in
     let adds = block_adds b in

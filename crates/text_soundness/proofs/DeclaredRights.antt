@@ -1,5 +1,7 @@
 -- What the rules say of each number and each signal that a block declares with.
-use Rattle.std.proofs.Common.{◌≡◌, ℕ, ◌+◌, ◌<◌, ◌≤◌, ◌^◌, zero, suc, Bool, false, not, List, [], ◌∷◌, map, take, get_or, Option, Some, None, refl, sym, ap, subst, arith, slice_get}
+use Rattle.std.proofs.Common.{◌≡◌, ℕ, ◌+◌, ◌<◌, ◌≤◌, ◌^◌, zero, suc, Bool, false, not, List, []}
+use Rattle.std.proofs.Common.{◌∷◌, map, take, get_or, Option, Some, None, refl, sym, ap, subst}
+use Rattle.std.proofs.Common.{arith, slice_get}
 use Rattle.std.specs.Prelude.{if◌then◌else◌, nat_eq, nat_lt}
 use Rattle.std.specs.List.{AllByRecursion}
 use Rattle.std.proofs.lemmas.Nat.{pow_pos}
@@ -21,7 +23,8 @@ use Rattle.text_events.specs.Note as note
 use Rattle.text_events.specs.Walk.{add}
 use Rattle.text_events.specs.Blocks.{width_walk, fields_walk, field_walk, block_events}
 use Rattle.text_rules.specs.declared.rule.BlockRule.TheVariants as rule
-use Rattle.text_rules.specs.Blocks.{wrong_width, wrong_init, wrong_size, too_many_temporaries, wrong_signal, stands}
+use Rattle.text_rules.specs.Blocks.{wrong_width, wrong_init, wrong_size, too_many_temporaries}
+use Rattle.text_rules.specs.Blocks.{wrong_signal, stands}
 use Rattle.text_soundness.specs.Fine.{Text, known_of}
 use Rattle.text_soundness.specs.Fine.{IsFineBlock, text_of}
 use Rattle.resolved_block.specs.Meant.{byte_of}
@@ -65,7 +68,8 @@ all_right signals blocks b fine = recursion_from_All (Right signals) (block_even
 pub before_add : (signals : List SignalKind) (line : ℕ) (said : Note) (out : List Event) → AllRight signals (add line said out) → AllRight signals out
 before_add signals line said out h = all_left (Right signals) out (record { line = line; note = said } ∷ []) h
 
-pub at_add : (signals : List SignalKind) (line : ℕ) (said : Note) (out : List Event) → AllRight signals (add line said out) → Right signals (record { line = line; note = said })
+pub at_add : (signals : List SignalKind) (line : ℕ) (said : Note) (out : List Event)
+    → AllRight signals (add line said out) → Right signals (record { line = line; note = said })
 at_add signals line said out h = all_last (Right signals) out (record { line = line; note = said }) h
 
 pub before_adds : (signals : List SignalKind) (out new : List Event) (saids : List Said) → Adds out new saids → AllRight signals new → AllRight signals out
@@ -89,20 +93,24 @@ width_kept w h =
     above zero h = absurd (h refl)
     above (suc n) h = omega arith
 
-init_kept : (init : Option Numbered) (w : Numbered) (signals : List SignalKind) (out : List Event) → AllRight signals (width_walk w init out) → init_of init < 2 ^ w.value
+init_kept : (init : Option Numbered) (w : Numbered) (signals : List SignalKind) (out : List Event)
+    → AllRight signals (width_walk w init out) → init_of init < 2 ^ w.value
 init_kept None w signals out h = pow_pos w.value
 init_kept (Some i) w signals out h =
     let right = at_add signals i.line (note.Init i.value w.value) (add w.line (note.Width w.value) out) h in
     ltb-true i.value (2 ^ w.value) (not-false (nat_lt i.value (2 ^ w.value)) right.init)
 
-before_init : (init : Option Numbered) (w : Numbered) (signals : List SignalKind) (out : List Event) → AllRight signals (width_walk w init out) → AllRight signals (add w.line (note.Width w.value) out)
+before_init : (init : Option Numbered) (w : Numbered) (signals : List SignalKind) (out : List Event)
+    → AllRight signals (width_walk w init out) → AllRight signals (add w.line (note.Width w.value) out)
 before_init None w signals out h = h
 before_init (Some i) w signals out h = before_add signals i.line (note.Init i.value w.value) (add w.line (note.Width w.value) out) h
 
-pub before_width : (init : Option Numbered) (w : Numbered) (signals : List SignalKind) (out : List Event) → AllRight signals (width_walk w init out) → AllRight signals out
+pub before_width : (init : Option Numbered) (w : Numbered) (signals : List SignalKind) (out : List Event)
+    → AllRight signals (width_walk w init out) → AllRight signals out
 before_width init w signals out h = before_add signals w.line (note.Width w.value) out (before_init init w signals out h)
 
-pub variable_fits : (n : Named) (init : Option Numbered) (w : Numbered) (clear : Bool) (signals : List SignalKind) (out : List Event) → AllRight signals (width_walk w init out) → VariableFits (variable_of n w init clear)
+pub variable_fits : (n : Named) (init : Option Numbered) (w : Numbered) (clear : Bool) (signals : List SignalKind)
+    (out : List Event) → AllRight signals (width_walk w init out) → VariableFits (variable_of n w init clear)
 variable_fits n init w clear signals out h =
     let right = at_add signals w.line (note.Width w.value) out (before_init init w signals out h) in
     let kept = width_kept w right.width in
@@ -120,14 +128,17 @@ pub record Walked (signals : List SignalKind) (P : Type 0) (out : List Event) : 
   pub fits : P
   pub before : AllRight signals out
 
-pub fields_fit : (fields : List Field) (file place : ℕ) (signals : List SignalKind) (out : List Event) → AllRight signals (fields_walk fields file place out) → Walked signals (AllByRecursion FieldFits (map field_of fields)) out
+pub fields_fit : (fields : List Field) (file place : ℕ) (signals : List SignalKind) (out : List Event)
+    → AllRight signals (fields_walk fields file place out)
+    → Walked signals (AllByRecursion FieldFits (map field_of fields)) out
 fields_fit [] file place signals out h = record { fits = tt; before = h }
 fields_fit (d ∷ rest) file place signals out h =
     let more = fields_fit rest file (place + 1) signals (field_walk d file place out) h in
     let named = add d.name.line (note.Declares d.name.name (meaning.Field file place)) out in
     record {
       fits = (record { variable = variable_fits d.name d.init d.width false signals named more.before; stays = refl }, more.fits);
-      before = before_add signals d.name.line (note.Declares d.name.name (meaning.Field file place)) out (before_width d.init d.width signals named more.before);
+      before = before_add signals d.name.line (note.Declares d.name.name (meaning.Field file place)) out
+          (before_width d.init d.width signals named more.before);
     }
 
 pub size_kept : (n : ℕ) → wrong_size (note.Size n) ≡ false → (1 ≤ n) × (n ≤ 65535)

@@ -1,5 +1,6 @@
 -- Each meaning that a name has in a block is a place in one of the block's lists.
-use Rattle.std.proofs.Common.{◌≡◌, ℕ, ◌+◌, ◌≤◌, suc, Bool, true, false, List, [], ◌∷◌, ◌++◌, length, map, Option, Some, None, refl, sym, ◌∙◌, ap, subst, arith, slice_get}
+use Rattle.std.proofs.Common.{◌≡◌, ℕ, ◌+◌, ◌≤◌, suc, Bool, true, false, List, [], ◌∷◌, ◌++◌, length}
+use Rattle.std.proofs.Common.{map, Option, Some, None, refl, sym, ◌∙◌, ap, subst, arith, slice_get}
 use Rattle.std.specs.Prelude.{if◌then◌else◌}
 use Rattle.std.specs.List.{AllByRecursion, cons_option, filter_map}
 use Rattle.std.specs.Str.{bytes_eq}
@@ -19,13 +20,17 @@ use Rattle.exchange_model.specs.declared.block.Block.{Block}
 use Rattle.exchange_model.specs.declared.block.Variable.{Variable as AVariable}
 use Rattle.exchange_model.specs.declared.block.File.{File as AFile}
 use Rattle.text_events.specs.declared.role.Meaning.{Meaning}
-use Rattle.text_events.specs.Blocks.{variables_of, temporaries_of, files_of, labels_of, block_events}
+use Rattle.text_events.specs.Blocks.{variables_of, temporaries_of, files_of, labels_of}
+use Rattle.text_events.specs.Blocks.{block_events}
 use Rattle.text_events.specs.Named.{naming_of}
 use Rattle.resolved_block.specs.declared.parts.First.{First}
-use Rattle.resolved_block.specs.Blocks.{field_of, kind_variable, variable_in, kind_temporary, temporary_in, kind_files, files_from, kind_labels, labels_from, typed_of}
+use Rattle.resolved_block.specs.Blocks.{field_of, kind_variable, variable_in, kind_temporary}
+use Rattle.resolved_block.specs.Blocks.{temporary_in, kind_files, files_from, kind_labels}
+use Rattle.resolved_block.specs.Blocks.{labels_from, typed_of}
 use Rattle.text_soundness.specs.Meanings.{Suits}
 use Rattle.text_soundness.proofs.MeaningsSaid.{Said, meant_by, said_of, naming_said}
-use Rattle.text_soundness.proofs.MeaningsBlocks.{fields_said, kind_said, decls_said, item_said, labels_said, block_said, block_adds}
+use Rattle.text_soundness.proofs.MeaningsBlocks.{fields_said, kind_said, decls_said, item_said}
+use Rattle.text_soundness.proofs.MeaningsBlocks.{labels_said, block_said, block_adds}
 use Rattle.plex_num.proofs.Lists.{all_append}
 
 abbrev pub SaidSuits : Block → Said → Type 0
@@ -40,13 +45,15 @@ last_suits k n (s ∷ rest) m all h = later (last_of (meant_by n) rest) refl h (
     here true suits e = subst (Suits k) (same_Some s.meaning m e) suits
     here false suits e = cc
 
-    later : (o : Option Meaning) → last_of (meant_by n) rest ≡ o → or_else o (meant_by n s) ≡ Some m → (last_of (meant_by n) rest ≡ Some m → Suits k m) → Suits k m
+    later : (o : Option Meaning) → last_of (meant_by n) rest ≡ o → or_else o (meant_by n s) ≡ Some m
+        → (last_of (meant_by n) rest ≡ Some m → Suits k m) → Suits k m
     later (Some x) is e more = more (is ∙ e)
     later None is e more = here (bytes_eq s.name n) all.0 e
 
 -- fields
 
-fields_suit : (k : Block) (f : ℕ) (file : AFile) (fields : List TreeField) (place : ℕ) → slice_get k.files f ≡ Some file → place + length fields ≤ length file.fields → AllByRecursion (SaidSuits k) (fields_said fields f place)
+fields_suit : (k : Block) (f : ℕ) (file : AFile) (fields : List TreeField) (place : ℕ) → slice_get k.files f ≡ Some file
+    → place + length fields ≤ length file.fields → AllByRecursion (SaidSuits k) (fields_said fields f place)
 unfolding fields_said
 fields_suit k f file [] place there within = tt
 fields_suit k f file (d ∷ rest) place there within = ((file, there, omega arith), fields_suit k f file rest (place + 1) there (omega arith))
@@ -59,8 +66,10 @@ pub record Ends (k : Block) (vs : List AVariable) (ts : List (List ℕ)) (fs : L
   pub files : (i : ℕ) (file : AFile) → slice_get fs i ≡ Some file → slice_get k.files (f + i) ≡ Some file
 
 kind_suits : (k : Block) (kind : DeclKind) (rest : List Decl) (v t f g : ℕ)
-    → Ends k (cons_option (kind_variable kind) (filter_map variable_in rest)) (cons_option (kind_temporary kind) (filter_map temporary_in rest)) (kind_files kind g (files_from rest)) v t f
-    → ((w u e h : ℕ) → Ends k (filter_map variable_in rest) (filter_map temporary_in rest) (files_from rest h) w u e → AllByRecursion (SaidSuits k) (decls_said rest w u e))
+    → Ends k (cons_option (kind_variable kind) (filter_map variable_in rest))
+    (cons_option (kind_temporary kind) (filter_map temporary_in rest)) (kind_files kind g (files_from rest)) v t f
+    → ((w u e h : ℕ) → Ends k (filter_map variable_in rest) (filter_map temporary_in rest) (files_from rest h) w u e
+    → AllByRecursion (SaidSuits k) (decls_said rest w u e))
     → AllByRecursion (SaidSuits k) (kind_said kind v t f ++ decls_said rest (v + variables_of kind) (t + temporaries_of kind) (f + files_of kind))
 kind_suits k (decls.Variable n w i clear) rest v t f g ends more = (
   omega (arith, ends.variables),
@@ -92,7 +101,9 @@ kind_suits k (decls.File forlopp n size fields) rest v t f g ends more =
           })),
     )
 
-pub decls_suit : (k : Block) (ds : List Decl) (v t f g : ℕ) → Ends k (filter_map variable_in ds) (filter_map temporary_in ds) (files_from ds g) v t f → AllByRecursion (SaidSuits k) (decls_said ds v t f)
+pub decls_suit : (k : Block) (ds : List Decl) (v t f g : ℕ)
+    → Ends k (filter_map variable_in ds) (filter_map temporary_in ds) (files_from ds g) v t f
+    → AllByRecursion (SaidSuits k) (decls_said ds v t f)
 unfolding decls_said files_from
 decls_suit k [] v t f g ends = tt
 decls_suit k (d ∷ rest) v t f g ends = kind_suits k d.kind rest v t f g ends (λ w u e h. decls_suit k rest w u e h)
@@ -107,14 +118,16 @@ item_suits k (items.Label n) rest l place within more = (omega (arith, within), 
 item_suits k (items.Enter s ns) rest l place within more = more (l + 0) (place + 1) (omega (arith, within))
 item_suits k (items.Stmt s) rest l place within more = more (l + 0) (place + 1) (omega (arith, within))
 
-pub labels_suit : (k : Block) (xs : List Item) (l place : ℕ) → l + length (labels_from xs place) ≤ length k.labels → AllByRecursion (SaidSuits k) (labels_said xs l)
+pub labels_suit : (k : Block) (xs : List Item) (l place : ℕ) → l + length (labels_from xs place) ≤ length k.labels
+    → AllByRecursion (SaidSuits k) (labels_said xs l)
 unfolding labels_said labels_from
 labels_suit k [] l place within = tt
 labels_suit k (x ∷ rest) l place within = item_suits k x.kind rest l place within (λ m at. labels_suit k rest m at)
 
 -- the block
 
-pub block_suits : (signals : List SignalKind) (blocks : List TreeBlock) (first : First) (b : TreeBlock) → AllByRecursion (SaidSuits (typed_of signals blocks first b).block) (block_said b)
+pub block_suits : (signals : List SignalKind) (blocks : List TreeBlock) (first : First) (b : TreeBlock)
+    → AllByRecursion (SaidSuits (typed_of signals blocks first b).block) (block_said b)
 unfolding typed_of
 block_suits signals blocks first b =
     let k = (typed_of signals blocks first b).block in
@@ -126,8 +139,10 @@ block_suits signals blocks first b =
     }))
     (labels_suit k b.items 0 0 (omega arith))
 
-pub meanings_are_suited : (signals : List SignalKind) (blocks : List TreeBlock) (first : First) (b : TreeBlock) (n : List ℕ) (m : Meaning) → naming_of (block_events b) n ≡ Some m → Suits (typed_of signals blocks first b).block m
+pub meanings_are_suited : (signals : List SignalKind) (blocks : List TreeBlock) (first : First) (b : TreeBlock)
+    (n : List ℕ) (m : Meaning) → naming_of (block_events b) n ≡ Some m → Suits (typed_of signals blocks first b).block m
 meanings_are_suited signals blocks first b n m h =
     let adds = block_adds b in
     let said : said_of (block_events b) ≡ block_said b = ap said_of adds.same ∙ adds.says in
-    last_suits (typed_of signals blocks first b).block n (block_said b) m (block_suits signals blocks first b) (ap (last_of (meant_by n)) (sym said) ∙ sym (naming_said (block_events b) n) ∙ h)
+    last_suits (typed_of signals blocks first b).block n (block_said b) m (block_suits signals blocks first b)
+    (ap (last_of (meant_by n)) (sym said) ∙ sym (naming_said (block_events b) n) ∙ h)

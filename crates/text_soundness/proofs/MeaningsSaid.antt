@@ -1,5 +1,6 @@
 -- What events declare, in their order, and what a walk adds to it.
-use Rattle.std.proofs.Common.{◌≡◌, ℕ, List, [], ◌∷◌, ◌++◌, map, Some, None, Option, refl, sym, ◌∙◌, ap}
+use Rattle.std.proofs.Common.{◌≡◌, ℕ, List, [], ◌∷◌, ◌++◌, map, Some, None, Option, refl, sym, ◌∙◌}
+use Rattle.std.proofs.Common.{ap}
 use Rattle.std.specs.Prelude.{if◌then◌else◌}
 use Rattle.std.specs.List.{cons_option}
 use Rattle.std.specs.Str.{bytes_eq}
@@ -32,7 +33,8 @@ or_none : {X : Type 0} (o : Option X) → or_else o None ≡ o
 or_none (Some x) = refl
 or_none None = refl
 
-naming_step : (n : List ℕ) (note : Note) (o : Option Meaning) (saids : List Said) → o ≡ last_of (meant_by n) saids → or_else o (meaning_of_note n note) ≡ last_of (meant_by n) (cons_option (said_note note) saids)
+naming_step : (n : List ℕ) (note : Note) (o : Option Meaning) (saids : List Said) → o ≡ last_of (meant_by n) saids
+    → or_else o (meaning_of_note n note) ≡ last_of (meant_by n) (cons_option (said_note note) saids)
 naming_step n (Declares m meaning) o saids h = ap (λ x. or_else x (if bytes_eq m n then Some meaning else None)) h
 naming_step n _ o saids h = or_none o ∙ h
 
@@ -86,9 +88,11 @@ quiet_none out = adds_none out
 pub quiet_then : (w v : EventWalk) → Quiet w → Quiet v → Quiet (λ out. v (w out))
 quiet_then w v g h out = adds_then out (w out) (v (w out)) [] [] (g out) (h (w out))
 
-pub each_quiet : {X : Type 0} (f : X → OwnWalk) (xs : List ((x : X) × QuietOwn (f x))) → QuietOwn (each_walk (map f (map (λ (p : (x : X) × QuietOwn (f x)). p.0) xs)))
+pub each_quiet : {X : Type 0} (f : X → OwnWalk) (xs : List ((x : X) × QuietOwn (f x)))
+    → QuietOwn (each_walk (map f (map (λ (p : (x : X) × QuietOwn (f x)). p.0) xs)))
 each_quiet f [] owner = quiet_none
-each_quiet {X = X} f (p ∷ rest) owner = quiet_then (f p.0 owner) (each_walk (map f (map (λ (q : (x : X) × QuietOwn (f x)). q.0) rest)) owner) (p.1 owner) (each_quiet f rest owner)
+each_quiet {X = X} f (p ∷ rest) owner = quiet_then (f p.0 owner)
+    (each_walk (map f (map (λ (q : (x : X) × QuietOwn (f x)). q.0) rest)) owner) (p.1 owner) (each_quiet f rest owner)
 
 pub all_each_quiet : {X : Type 0} (f : X → OwnWalk) → ((x : X) → QuietOwn (f x)) → (xs : List X) → QuietOwn (each_walk (map f xs))
 all_each_quiet f h [] owner = quiet_none

@@ -1,5 +1,6 @@
 -- Conditions, and what stands after WITH.
-use Rattle.std.proofs.Common.{◌≡◌, ℕ, List, [], ◌∷◌, length, map, Option, Some, None, refl, sym, ap, suc}
+use Rattle.std.proofs.Common.{◌≡◌, ℕ, List, [], ◌∷◌, length, map, Option, Some, None, refl, sym, ap}
+use Rattle.std.proofs.Common.{suc}
 use Rattle.std.specs.Prelude.{IfSome}
 use Rattle.std.specs.List.{AllByRecursion}
 use Rattle.std.proofs.lemmas.List.{length-map}
@@ -16,12 +17,15 @@ use Rattle.exchange_model.specs.Inside.{joined, relation_exprs, cond_exprs}
 use Rattle.text_events.specs.Note.{Note}
 use Rattle.text_events.specs.Note.{Uses}
 use Rattle.text_events.specs.declared.role.Need.TheVariants as need
-use Rattle.text_events.specs.Walk.{expr_walk, relation_walk, conj_walk, cond_walk, names_of, values_of, name_walk, names_walk, values_walk}
+use Rattle.text_events.specs.Walk.{expr_walk, relation_walk, conj_walk, cond_walk, names_of}
+use Rattle.text_events.specs.Walk.{values_of, name_walk, names_walk, values_walk}
 use Rattle.resolved_block.specs.Names.{Env}
 use Rattle.resolved_block.specs.Meant.{temporary_in}
-use Rattle.resolved_block.specs.Expressions.{typed_expr, typed_relation, typed_conj, typed_cond, typed_values, typed_temps}
+use Rattle.resolved_block.specs.Expressions.{typed_expr, typed_relation, typed_conj, typed_cond}
+use Rattle.resolved_block.specs.Expressions.{typed_values, typed_temps}
 use Rattle.resolved_block.specs.Meant.{temporary_of}
-use Rattle.text_soundness.proofs.ServedWalks.{Tells, tells_none, tells_add, tells_then, tells_so, tells_each, tells_in_turn}
+use Rattle.text_soundness.proofs.ServedWalks.{Tells, tells_none, tells_add, tells_then, tells_so}
+use Rattle.text_soundness.proofs.ServedWalks.{tells_each, tells_in_turn}
 use Rattle.text_soundness.proofs.NamedExprs.{all_made}
 use Rattle.plex_num.proofs.Lists.{all_append}
 
@@ -42,7 +46,8 @@ temps_count env None = refl
 temps_count env (Some ns) = ap suc (sym (length-map ns.rest (temporary_of env)))
 
 -- an expression is of the block, where the walk over it tells so
-module _ (P : Note → Type 0) (s : Scope) (env : Env) (b : ℕ) (one : (e : Expr) → KeepsExpr b e → (owner : ℕ) → Tells P (expr_walk e owner) (ExprFits s (typed_expr env e))) where
+module _ (P : Note → Type 0) (s : Scope) (env : Env) (b : ℕ)
+    (one : (e : Expr) → KeepsExpr b e → (owner : ℕ) → Tells P (expr_walk e owner) (ExprFits s (typed_expr env e))) where
   abbrev RelationFits : Relation → Type 0
   RelationFits r = ExprFits s (typed_expr env r.left) × ExprFits s (typed_expr env r.right)
 
@@ -59,18 +64,23 @@ module _ (P : Note → Type 0) (s : Scope) (env : Env) (b : ℕ) (one : (e : Exp
   conj_tells : (c : Conj) → KeepsConj b c → (owner : ℕ) → Tells P (conj_walk c owner) (ConjFits c)
   conj_tells c kept owner =
       tells_so P _ _ _ (λ x. (x.0.0, (x.0.1, relations_fit c.rest x.1)))
-      (tells_then P _ _ _ _ (relation_tells c.first kept.0 owner) (tells_each P relation_walk (KeepsRelation b) RelationFits c.rest owner kept.1 (λ r k. relation_tells r k owner)))
+      (tells_then P _ _ _ _ (relation_tells c.first kept.0 owner)
+      (tells_each P relation_walk (KeepsRelation b) RelationFits c.rest owner kept.1
+      (λ r k. relation_tells r k owner)))
 
   conjs_fit : (cs : List Conj) → AllByRecursion ConjFits cs → AllByRecursion (ExprFits s) (joined (map relation_exprs (map (typed_conj env) cs)))
   conjs_fit [] all = tt
-  conjs_fit (c ∷ cs) all = all_append (ExprFits s) (relation_exprs (typed_conj env c)) (joined (map relation_exprs (map (typed_conj env) cs))) all.0 (conjs_fit cs all.1)
+  conjs_fit (c ∷ cs) all = all_append (ExprFits s) (relation_exprs (typed_conj env c))
+      (joined (map relation_exprs (map (typed_conj env) cs))) all.0 (conjs_fit cs all.1)
 
   pub cond_tells : (c : Cond) → KeepsCond b c → (owner : ℕ) → Tells P (cond_walk c owner) (AllByRecursion (ExprFits s) (cond_exprs (typed_cond env c)))
   cond_tells c kept owner =
-      tells_so P _ _ _ (λ x. all_append (ExprFits s) (relation_exprs (typed_conj env c.first)) (joined (map relation_exprs (map (typed_conj env) c.rest))) x.0 (conjs_fit c.rest x.1))
+      tells_so P _ _ _ (λ x. all_append (ExprFits s) (relation_exprs (typed_conj env c.first))
+      (joined (map relation_exprs (map (typed_conj env) c.rest))) x.0 (conjs_fit c.rest x.1))
       (tells_then P _ _ _ _ (conj_tells c.first kept.0 owner) (tells_each P conj_walk (KeepsConj b) ConjFits c.rest owner kept.1 (λ r k. conj_tells r k owner)))
 
-  pub values_tell : (es : Option Exprs) → IfSome es (KeepsExprs b) → (owner : ℕ) → Tells P (values_walk es owner) (AllByRecursion (ExprFits s) (typed_values env es))
+  pub values_tell : (es : Option Exprs) → IfSome es (KeepsExprs b) → (owner : ℕ)
+      → Tells P (values_walk es owner) (AllByRecursion (ExprFits s) (typed_values env es))
   values_tell None kept owner = tells_so P _ _ _ (λ x. tt) (tells_none P)
   values_tell (Some es) kept owner =
       tells_so P _ _ _ (λ x. (x.0, all_made (typed_expr env) (ExprFits s) es.rest x.1))

@@ -1,25 +1,32 @@
 -- What stands for something in the block gives a number in range.
-use Rattle.std.proofs.Common.{◌≡◌, ℕ, ◌+◌, ◌<◌, Bool, true, false, not, ◌&&◌, List, length, Option, Some, None, refl, sym, subst, arith, nat_eq, nat_lt, slice_get}
+use Rattle.std.proofs.Common.{◌≡◌, ℕ, ◌+◌, ◌<◌, Bool, true, false, not, ◌&&◌, List, length, Option}
+use Rattle.std.proofs.Common.{Some, None, refl, sym, subst, arith, nat_eq, nat_lt, slice_get}
 use Rattle.std.specs.Prelude.{if◌then◌else◌, unwrap_or}
 use Rattle.std.specs.List.{Contains}
 use Rattle.std.proofs.lemmas.Bool.{eqb-true}
 use Rattle.exchange_model.specs.declared.signal.SignalKind.{SignalKind}
-use Rattle.exchange_model.specs.declared.signal.SignalKind.TheVariants.{Buffered, Direct, Combined, Answer, Outside}
+use Rattle.exchange_model.specs.declared.signal.SignalKind.TheVariants.{Buffered, Direct, Combined}
+use Rattle.exchange_model.specs.declared.signal.SignalKind.TheVariants.{Answer, Outside}
 use Rattle.exchange_model.specs.declared.expr.Factor.TheVariants as factor
 use Rattle.exchange_model.specs.Kept.{signal_count}
-use Rattle.exchange_model.specs.Fits.{Scope, FactorFits, IsTemporary, IsLabel, IsFile, IsField, AnswerFits, EnterFits, IsHolder, Reaches, SendFits, TransferFits}
+use Rattle.exchange_model.specs.Fits.{Scope, FactorFits, IsTemporary, IsLabel, IsFile, IsField}
+use Rattle.exchange_model.specs.Fits.{AnswerFits, EnterFits, IsHolder, Reaches, SendFits}
+use Rattle.exchange_model.specs.Fits.{TransferFits}
 use Rattle.exchange_model.specs.PartFits.{FactorOwnFits, InsideFits}
 use Rattle.exchange_model.proofs.Built.{factor_fits-built}
 use Rattle.text_events.specs.declared.role.Meaning.{Meaning}
-use Rattle.text_events.specs.declared.role.Meaning.TheVariants.{Variable, Temporary, File, Field, Label}
+use Rattle.text_events.specs.declared.role.Meaning.TheVariants.{Variable, Temporary, File, Field}
+use Rattle.text_events.specs.declared.role.Meaning.TheVariants.{Label}
 use Rattle.text_events.specs.declared.role.Need.TheVariants as need
 use Rattle.text_events.specs.declared.role.Role.{Role}
 use Rattle.text_events.specs.declared.role.Role.TheVariants as role
-use Rattle.text_rules.specs.Blocks.{serves, is_plain_file, is_field_of, is_forlopp_file, stands, other_data, is_other_kind}
+use Rattle.text_rules.specs.Blocks.{serves, is_plain_file, is_field_of, is_forlopp_file, stands}
+use Rattle.text_rules.specs.Blocks.{other_data, is_other_kind}
 use Rattle.signal_types.specs.Found.{kind_at}
 use Rattle.text_rules.specs.Links.{is_outside}
 use Rattle.resolved_block.specs.Names.{counted_on}
-use Rattle.resolved_block.specs.Meant.{byte_of, value_in, temporary_in, file_in, field_file_in, field_place_in, label_in, holder_in}
+use Rattle.resolved_block.specs.Meant.{byte_of, value_in, temporary_in, file_in, field_file_in}
+use Rattle.resolved_block.specs.Meant.{field_place_in, label_in, holder_in}
 use Rattle.text_soundness.specs.Blocks.{IsFileOf, IsPlaced}
 use Rattle.text_soundness.specs.Meanings.{Suits}
 use Rattle.exchange_model.specs.declared.stmt.Receiver.{Receiver}
@@ -55,7 +62,8 @@ module _ (s : Scope) (first : ℕ) (placed : IsPlaced s first) where
   temporary_fits (Some (Label l)) suited h = absurd cc
   temporary_fits None suited h = absurd cc
 
-  pub field_fits : (o : Option Meaning) → Suited s o → serves need.Field o ≡ true → IsField s (field_file_in (counted_on first o)) (field_place_in (counted_on first o))
+  pub field_fits : (o : Option Meaning) → Suited s o → serves need.Field o ≡ true
+      → IsField s (field_file_in (counted_on first o)) (field_place_in (counted_on first o))
   field_fits (Some (Field f g)) suited h = field_range f g (suited (Field f g) refl)
   field_fits (Some (Temporary t)) suited h = absurd cc
   field_fits (Some (Variable v)) suited h = absurd cc
@@ -64,9 +72,14 @@ module _ (s : Scope) (first : ℕ) (placed : IsPlaced s first) where
   field_fits None suited h = absurd cc
 
   pub value_own : (o : Option Meaning) → Suited s o → serves need.Value o ≡ true → FactorOwnFits s (value_in (counted_on first o))
-  value_own (Some (Variable v)) suited h = factor_fits-built s (factor.Variable v) (subst (FactorFits s) (sym (factor.outs-Variable v)) (suited (Variable v) refl)) (subst (InsideFits s) (sym (factor.outs-Variable v)) tt)
+  value_own (Some (Variable v)) suited h = factor_fits-built s (factor.Variable v)
+      (subst (FactorFits s) (sym (factor.outs-Variable v)) (suited (Variable v) refl))
+      (subst (InsideFits s) (sym (factor.outs-Variable v)) tt)
   value_own (Some (Temporary t)) suited h =
-      factor_fits-built s (factor.Temporary (byte_of t)) (subst (FactorFits s) (sym (factor.outs-Temporary (byte_of t))) (temporary_range t (suited (Temporary t) refl))) (subst (InsideFits s) (sym (factor.outs-Temporary (byte_of t))) tt)
+      factor_fits-built s (factor.Temporary (byte_of t))
+      (subst (FactorFits s) (sym (factor.outs-Temporary (byte_of t)))
+      (temporary_range t (suited (Temporary t) refl)))
+      (subst (InsideFits s) (sym (factor.outs-Temporary (byte_of t))) tt)
   value_own (Some (File f a)) suited h = absurd cc
   value_own (Some (Field f g)) suited h = absurd cc
   value_own (Some (Label l)) suited h = absurd cc
@@ -80,7 +93,10 @@ module _ (s : Scope) (first : ℕ) (placed : IsPlaced s first) where
   holder_fits (Some (Label l)) suited h = absurd cc
   holder_fits None suited h = absurd cc
 
-  pub field_own : (o p : Option Meaning) → Suited s o → Suited s p → serves need.Field o ≡ true → serves need.Temporary p ≡ true → FactorOwnFits s (factor.Field (field_file_in (counted_on first o)) (field_place_in (counted_on first o)) (temporary_in (counted_on first p)))
+  pub field_own : (o p : Option Meaning) → Suited s o → Suited s p → serves need.Field o ≡ true
+      → serves need.Temporary p ≡ true → FactorOwnFits s
+      (factor.Field (field_file_in (counted_on first o)) (field_place_in (counted_on first o))
+      (temporary_in (counted_on first p)))
   field_own o p suited pointed h g =
       let shown = factor.outs-Field (field_file_in (counted_on first o)) (field_place_in (counted_on first o)) (temporary_in (counted_on first p)) in
       factor_fits-built s _ (subst (FactorFits s) (sym shown) (field_fits o suited h, temporary_fits p pointed g)) (subst (InsideFits s) (sym shown) tt)
@@ -107,7 +123,8 @@ module _ (s : Scope) (first : ℕ) (placed : IsPlaced s first) where
   forlopp_fits None suited h = absurd cc
 
   -- a field of a file, which is the file that is looked through
-  pub searched_fits : (o p : Option Meaning) → Suited s p → is_field_of o p ≡ true → IsField s (file_in (counted_on first o)) (field_place_in (counted_on first p))
+  pub searched_fits : (o p : Option Meaning) → Suited s p → is_field_of o p ≡ true
+      → IsField s (file_in (counted_on first o)) (field_place_in (counted_on first p))
   searched_fits (Some (File f a)) (Some (Field g place)) suited h =
       subst (λ x. IsField s (first + x) place) (sym (eqb-true f g h)) (field_range g place (suited (Field g place) refl))
   searched_fits (Some (File f a)) (Some (File g b)) suited h = absurd cc
@@ -124,7 +141,8 @@ module _ (s : Scope) (first : ℕ) (placed : IsPlaced s first) where
 -- signals
 
 -- the number of a signal that stands somewhere gives the signal
-pub kind_of_number : (signals : List SignalKind) (o : Option ℕ) (r : Role) → stands r (kind_at signals o) ≡ true → slice_get signals (unwrap_or o 0) ≡ kind_at signals o
+pub kind_of_number : (signals : List SignalKind) (o : Option ℕ) (r : Role) → stands r (kind_at signals o) ≡ true
+    → slice_get signals (unwrap_or o 0) ≡ kind_at signals o
 kind_of_number signals (Some i) r h = refl
 kind_of_number signals None role.Received h = absurd cc
 kind_of_number signals None (role.Sent a) h = absurd cc
@@ -161,7 +179,8 @@ enter_fits None count h same = absurd cc
 -- a SEND and a TRANSFER, which go there unless the signal leaves the exchange
 
 module _ (s : Scope) (signal : ℕ) (to : Option Receiver) where
-  pub transfer_fits : (k : Option SignalKind) → stands role.Transferred k ≡ true → (is_outside k ≡ false → Reaches s to signal) → TransferFits s k signal (if is_outside k then None else to)
+  pub transfer_fits : (k : Option SignalKind) → stands role.Transferred k ≡ true
+      → (is_outside k ≡ false → Reaches s to signal) → TransferFits s k signal (if is_outside k then None else to)
   transfer_fits (Some (Direct name n)) h arrives = arrives refl
   transfer_fits (Some (Buffered name level n)) h arrives = absurd cc
   transfer_fits (Some (Combined name n a)) h arrives = absurd cc
@@ -169,10 +188,13 @@ module _ (s : Scope) (signal : ℕ) (to : Option Receiver) where
   transfer_fits (Some (Outside name n)) h arrives = absurd cc
   transfer_fits None h arrives = absurd cc
 
-  pub send_fits : (k : Option SignalKind) (count : ℕ) (reference fresh : Bool) → stands (role.Sent reference) k ≡ true → other_data count k ≡ false → (fresh && is_other_kind k) ≡ false → (is_outside k ≡ false → Reaches s to signal) → Contains s.block.sends signal → SendFits s k signal (if is_outside k then None else to) count fresh
+  pub send_fits : (k : Option SignalKind) (count : ℕ) (reference fresh : Bool) → stands (role.Sent reference) k ≡ true
+      → other_data count k ≡ false → (fresh && is_other_kind k) ≡ false → (is_outside k ≡ false → Reaches s to signal)
+      → Contains s.block.sends signal → SendFits s k signal (if is_outside k then None else to) count fresh
   send_fits (Some (Buffered name level n)) count reference fresh h same new arrives out = (same_count count (Buffered name level n) same, arrives refl)
   send_fits (Some (Direct name n)) count reference fresh h same new arrives out = (same_count count (Direct name n) same, arrives refl, not_fresh fresh new)
-  send_fits (Some (Combined name n a)) count reference fresh h same new arrives out = (same_count count (Combined name n a) same, arrives refl, not_fresh fresh new)
+  send_fits (Some (Combined name n a)) count reference fresh h same new arrives out =
+      (same_count count (Combined name n a) same, arrives refl, not_fresh fresh new)
   send_fits (Some (Outside name n)) count reference fresh h same new arrives out = (same_count count (Outside name n) same, refl, not_fresh fresh new, out)
   send_fits (Some (Answer name n of)) count reference fresh h same new arrives out = absurd cc
   send_fits None count reference fresh h same new arrives out = absurd cc

@@ -1,4 +1,5 @@
--- The statements of a block are numbered from the block's first point on, and those of all blocks from 0 on.
+-- The statements of a block are numbered from the block's first point on, and those of all blocks
+-- from 0 on.
 use Rattle.std.proofs.Common.{◌≡◌, ℕ, ◌+◌, List, [], ◌∷◌, ◌++◌, refl, sym, ◌∙◌, ap, append_assoc}
 use Rattle.plex_ast.specs.declared.block.Block.{Block as TreeBlock}
 use Rattle.plex_ast.specs.declared.block.Item.{Item}
@@ -46,23 +47,32 @@ items_follow env [] p = follows_none p
 items_follow env (i ∷ rest) p = kind_follows env i.line i.kind (items_made env rest) (items_follow env rest) p
 
 -- the statements of a block, with the end of its text
-pub body_follows : (env : Env) (first : First) (b : TreeBlock) → Follows (spots (body_of env first b)) first.point ((items_made env b.items (first.point)).1 + 1)
+pub body_follows : (env : Env) (first : First) (b : TreeBlock)
+    → Follows (spots (body_of env first b)) first.point ((items_made env b.items (first.point)).1 + 1)
 body_follows env first b =
     let made = items_made env b.items (first.point) in
     let last : MStmt = record { point = made.1; line = b.end_line; kind = stmt.Finish } in
     let one : Follows (inner_spots stmt.Finish) (made.1 + 1) (made.1 + 1) = alone stmt.Finish _ (made.1 + 1) (made.1 + 1) stmt.outs-Finish refl refl in
     rw (spots_join made.0 (last ∷ [])) (follows_join (spots made.0) (spots (last ∷ [])) first.point made.1 (made.1 + 1) (items_follow env b.items (first.point))
-    (follows_join (stmt_spots last) [] made.1 (made.1 + 1) (made.1 + 1) (follows_first (record { point = made.1; line = b.end_line }) (inner_spots stmt.Finish) (made.1 + 1) one) (follows_none (made.1 + 1))))
+    (follows_join (stmt_spots last) [] made.1 (made.1 + 1) (made.1 + 1)
+    (follows_first (record { point = made.1; line = b.end_line }) (inner_spots stmt.Finish) (made.1 + 1) one)
+    (follows_none (made.1 + 1))))
 
-pub block_follows : (signals : List SignalKind) (blocks : List TreeBlock) (first : First) (b : TreeBlock) → Follows (spots (typed_of signals blocks first b).block.body) first.point (typed_of signals blocks first b).next.point
+pub block_follows : (signals : List SignalKind) (blocks : List TreeBlock) (first : First) (b : TreeBlock)
+    → Follows (spots (typed_of signals blocks first b).block.body) first.point
+    (typed_of signals blocks first b).next.point
 unfolding typed_of
 block_follows signals blocks first b = body_follows (env_of signals blocks first b) first b
 
 -- all blocks, the first of which begins with these numbers
-pub blocks_follow : (signals : List SignalKind) (blocks : List TreeBlock) (first : First) (list : List TreeBlock) → (q : ℕ) × Follows (all_spots (typed_from signals blocks first list)) first.point q
+pub blocks_follow : (signals : List SignalKind) (blocks : List TreeBlock) (first : First) (list : List TreeBlock)
+    → (q : ℕ) × Follows (all_spots (typed_from signals blocks first list)) first.point q
 unfolding typed_from
 blocks_follow signals blocks first [] = (first.point, follows_none first.point)
 blocks_follow signals blocks first (b ∷ rest) =
     let t = typed_of signals blocks first b in
-    let more = blocks_follow signals blocks t.next rest in
-    (more.0, follows_join (spots t.block.body) (all_spots (typed_from signals blocks t.next rest)) first.point t.next.point more.0 (block_follows signals blocks first b) more.1)
+    let more = blocks_follow signals blocks t.next rest in (
+      more.0,
+      follows_join (spots t.block.body) (all_spots (typed_from signals blocks t.next rest)) first.point
+          t.next.point more.0 (block_follows signals blocks first b) more.1,
+    )

@@ -1,5 +1,6 @@
 -- Files are numbered through all blocks, from 0 on.
-use Rattle.std.proofs.Common.{◌≡◌, ℕ, ◌+◌, List, [], ◌∷◌, ◌++◌, length, map, refl, sym, ◌∙◌, ap, length-append}
+use Rattle.std.proofs.Common.{◌≡◌, ℕ, ◌+◌, List, [], ◌∷◌, ◌++◌, length, map, refl, sym, ◌∙◌, ap}
+use Rattle.std.proofs.Common.{length-append}
 use Rattle.std.proofs.lemmas.List.{length-map, map-append}
 use Rattle.std.specs.List.{range_with_len}
 use Rattle.plex_ast.specs.declared.block.Block.{Block as TreeBlock}
@@ -23,7 +24,8 @@ counts_first n rest h = ap (λ r. n ∷ r) h
 
 counts_join : (xs ys : List ℕ) (n : ℕ) → Counts xs n → Counts ys (n + length xs) → Counts (xs ++ ys) n
 counts_join xs ys n f g =
-    ap (λ r. r ++ ys) f ∙ ap (λ r. range_with_len n (length xs) ++ r) g ∙ range_join n (length xs) (length ys) ∙ ap (range_with_len n) (sym (length-append xs ys))
+    ap (λ r. r ++ ys) f ∙ ap (λ r. range_with_len n (length xs) ++ r) g ∙ range_join n (length xs) (length ys)
+    ∙ ap (range_with_len n) (sym (length-append xs ys))
 
 abbrev file_numbers : List File → List ℕ
 file_numbers files = map (λ (f : File). f.number) files
@@ -46,16 +48,20 @@ placed_same : (block cell : ℕ) (files : List File) → placed_numbers (placed_
 placed_same block cell [] = refl
 placed_same block cell (f ∷ fs) = ap (λ r. f.number ∷ r) (placed_same block (cell + file_cells f) fs)
 
-block_count : (signals : List SignalKind) (blocks : List TreeBlock) (first : First) (b : TreeBlock) → Counts (file_numbers (typed_of signals blocks first b).block.files) first.file
+block_count : (signals : List SignalKind) (blocks : List TreeBlock) (first : First) (b : TreeBlock)
+    → Counts (file_numbers (typed_of signals blocks first b).block.files) first.file
 unfolding typed_of
 block_count signals blocks first b = files_count b.decls first.file
 
-pub next_file : (signals : List SignalKind) (blocks : List TreeBlock) (first : First) (b : TreeBlock) → (typed_of signals blocks first b).next.file ≡ first.file + length (typed_of signals blocks first b).block.files
+pub next_file : (signals : List SignalKind) (blocks : List TreeBlock) (first : First) (b : TreeBlock)
+    → (typed_of signals blocks first b).next.file ≡ first.file + length (typed_of signals blocks first b).block.files
 unfolding typed_of
 next_file signals blocks first b = refl
 
 -- those of all blocks
-pub all_count : (signals : List SignalKind) (blocks : List TreeBlock) (first : First) (list : List TreeBlock) (number cell : ℕ) → Counts (placed_numbers (placed_from number cell (typed_from signals blocks first list))) first.file
+pub all_count : (signals : List SignalKind) (blocks : List TreeBlock) (first : First) (list : List TreeBlock)
+    (number cell : ℕ) → Counts (placed_numbers (placed_from number cell (typed_from signals blocks first list)))
+    first.file
 unfolding typed_from
 all_count signals blocks first [] number cell = refl
 all_count signals blocks first (b ∷ rest) number cell =
@@ -63,6 +69,8 @@ all_count signals blocks first (b ∷ rest) number cell =
     let here = placed_in number (cell + length t.block.variables) t.block.files in
     let others = placed_from (number + 1) (cell + block_cells t.block) (typed_from signals blocks t.next rest) in
     let same : placed_numbers here ≡ file_numbers t.block.files = placed_same number (cell + length t.block.variables) t.block.files in
-    let many : t.next.file ≡ first.file + length (placed_numbers here) = next_file signals blocks first b ∙ ap (λ n. first.file + n) (sym (length-map t.block.files _) ∙ ap length (sym same)) in
+    let many : t.next.file ≡ first.file + length (placed_numbers here) = next_file signals blocks first b
+    ∙ ap (λ n. first.file + n) (sym (length-map t.block.files _) ∙ ap length (sym same)) in
     rw (map-append (λ (p : Placed). p.file.number) here others)
-    (counts_join (placed_numbers here) (placed_numbers others) first.file (rw same (block_count signals blocks first b)) (rw (← many) (all_count signals blocks t.next rest (number + 1) (cell + block_cells t.block))))
+    (counts_join (placed_numbers here) (placed_numbers others) first.file (rw same (block_count signals blocks first b))
+    (rw (← many) (all_count signals blocks t.next rest (number + 1) (cell + block_cells t.block))))

@@ -1,11 +1,15 @@
--- A combined SEND and the RETRIEVE of its answer: what neighbours in a list of events say of typed statements.
-use Rattle.std.proofs.Common.{unwrap_or, ◌≡◌, ℕ, Bool, false, not, ◌&&◌, List, Some, None, Option, is_some, refl, sym, ap, nat_eq, slice_get}
+-- A combined SEND and the RETRIEVE of its answer: what neighbours in a list of events say of typed
+-- statements.
+use Rattle.std.proofs.Common.{unwrap_or, ◌≡◌, ℕ, Bool, false, not, ◌&&◌, List, Some, None, Option}
+use Rattle.std.proofs.Common.{is_some, refl, sym, ap, nat_eq, slice_get}
 use Rattle.std.proofs.lemmas.Bool.{eqb-true, not-false}
 use Rattle.exchange_model.specs.declared.signal.SignalKind.{SignalKind}
-use Rattle.exchange_model.specs.declared.signal.SignalKind.TheVariants.{Buffered, Direct, Combined, Answer, Outside}
+use Rattle.exchange_model.specs.declared.signal.SignalKind.TheVariants.{Buffered, Direct, Combined}
+use Rattle.exchange_model.specs.declared.signal.SignalKind.TheVariants.{Answer, Outside}
 use Rattle.exchange_model.specs.Fits.{answer_of as answer_awaited}
 use Rattle.signal_types.specs.Found.{number_in, kind_in, kind_at}
-use Rattle.text_events.specs.Note.{Head, Nothing, Other, Enters, Sends, Retrieves, Returns, Transfers}
+use Rattle.text_events.specs.Note.{Head, Nothing, Other, Enters, Sends, Retrieves, Returns}
+use Rattle.text_events.specs.Note.{Transfers}
 use Rattle.text_events.specs.Note.{Nothing, Other, Enters, Sends, Retrieves, Returns}
 use Rattle.text_events.specs.declared.role.Role.TheVariants.{Sent}
 use Rattle.text_rules.specs.Blocks.{answer_of, same_number, retrieves, asks, apart, stands}
@@ -44,7 +48,8 @@ none_asked None h = refl
 none_asked (Some a) h = cc
 
 -- nothing is asked for before what retrieves nothing
-pub asks_nothing : (signals : List SignalKind) (before after : Head) → retrieved_by signals after ≡ None → Meet signals before after → asked signals before ≡ None
+pub asks_nothing : (signals : List SignalKind) (before after : Head) → retrieved_by signals after ≡ None
+    → Meet signals before after → asked signals before ≡ None
 asks_nothing signals before Nothing none h = none_asked (asked signals before) h
 asks_nothing signals before Other none h = none_asked (asked signals before) h
 asks_nothing signals before (Enters n count) none h = none_asked (asked signals before) h
@@ -59,7 +64,8 @@ same_both (Some x) None h = cc
 same_both None (Some y) h = cc
 same_both None None h = cc
 
-asks_it : (signals : List SignalKind) (before : Head) (answer : Option ℕ) → not (asks (kind_in signals) answer before) ≡ false → Some (signal_in answer) ≡ asked signals before
+asks_it : (signals : List SignalKind) (before : Head) (answer : Option ℕ)
+    → not (asks (kind_in signals) answer before) ≡ false → Some (signal_in answer) ≡ asked signals before
 asks_it signals Nothing answer h = cc
 asks_it signals Other answer h = cc
 asks_it signals (Enters n count) answer h = cc
@@ -69,7 +75,8 @@ asks_it signals (Returns n count) answer h = cc
 asks_it signals (Transfers n way) answer h = cc
 
 -- a statement retrieves what the one before it asks for
-pub retrieves_asked : (signals : List SignalKind) (here before after : Head) → Together signals here before after → Meet signals before here → retrieved_by signals here ≡ asked signals before
+pub retrieves_asked : (signals : List SignalKind) (here before after : Head) → Together signals here before after
+    → Meet signals before here → retrieved_by signals here ≡ asked signals before
 retrieves_asked signals Nothing before after t m = sym (asks_nothing signals before Nothing refl m)
 retrieves_asked signals Other before after t m = sym (asks_nothing signals before Other refl m)
 retrieves_asked signals (Enters n count) before after t m = sym (asks_nothing signals before (Enters n count) refl m)
@@ -87,9 +94,12 @@ same_answers (Some (Outside name count)) = refl
 same_answers None = refl
 
 -- a SEND of a signal that may be sent awaits what it asks for
-pub awaits_asked : (signals : List SignalKind) (n : List ℕ) (reference : Bool) → not (stands (Sent reference) (kind_in signals n)) ≡ false → answer_awaited (slice_get signals (signal_in (number_in signals n))) ≡ answer_of (kind_in signals n)
+pub awaits_asked : (signals : List SignalKind) (n : List ℕ) (reference : Bool)
+    → not (stands (Sent reference) (kind_in signals n)) ≡ false
+    → answer_awaited (slice_get signals (signal_in (number_in signals n))) ≡ answer_of (kind_in signals n)
 awaits_asked signals n reference h = found (number_in signals n) h
   where
-    found : (o : Option ℕ) → not (stands (Sent reference) (kind_at signals o)) ≡ false → answer_awaited (slice_get signals (signal_in o)) ≡ answer_of (kind_at signals o)
+    found : (o : Option ℕ) → not (stands (Sent reference) (kind_at signals o)) ≡ false
+        → answer_awaited (slice_get signals (signal_in o)) ≡ answer_of (kind_at signals o)
     found (Some i) g = same_answers (slice_get signals i)
     found None g = cc

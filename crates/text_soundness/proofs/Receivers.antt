@@ -1,5 +1,6 @@
 -- Where some block receives a signal, the first that does is found.
-use Rattle.std.proofs.Common.{◌≡◌, ℕ, ◌<◌, ◌+◌, Bool, true, false, List, [], ◌∷◌, length, position, Option, Some, None, refl, sym, ◌∙◌, ap, arith, nat_eq}
+use Rattle.std.proofs.Common.{◌≡◌, ℕ, ◌<◌, ◌+◌, Bool, true, false, List, [], ◌∷◌, length, position}
+use Rattle.std.proofs.Common.{Option, Some, None, refl, sym, ◌∙◌, ap, arith, nat_eq}
 use Rattle.std.specs.Prelude.{if◌then◌else◌}
 use Rattle.std.specs.List.{position_from}
 use Rattle.std.proofs.lemmas.Iterator.Adapters.{position_from-zero}
@@ -14,7 +15,8 @@ count_none : {X : Type 0} (test : X → Bool) (start : ℕ) (xs : List X) → po
 count_none test start [] h = refl
 count_none test start (x ∷ xs) h = here (test x) refl h (count_none test (start + 1) xs)
   where
-    here : (b : Bool) → test x ≡ b → (if b then Some start else position_from test (start + 1) xs) ≡ None → (position_from test (start + 1) xs ≡ None → count test xs ≡ 0) → (if b then 1 else 0) + count test xs ≡ 0
+    here : (b : Bool) → test x ≡ b → (if b then Some start else position_from test (start + 1) xs) ≡ None
+        → (position_from test (start + 1) xs ≡ None → count test xs ≡ 0) → (if b then 1 else 0) + count test xs ≡ 0
     here true is h more = absurd cc
     here false is h more = omega (arith, more h)
 

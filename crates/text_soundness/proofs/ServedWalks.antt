@@ -14,7 +14,8 @@ AllSo P events = AllByRecursion (λ (e : Event). P e.note) events
 pub record Tells (P : Note → Type 0) (w : EventWalk) (X : Type 0) : Type 0 where
   pub sound : (out : List Event) → AllSo P (w out) → AllSo P out × X
 
-push_so : (P : Note → Type 0) (out : List Event) (e : Event) → AllByRecursion (λ (e : Event). P e.note) (out ++ e ∷ []) → AllByRecursion (λ (e : Event). P e.note) out × P e.note
+push_so : (P : Note → Type 0) (out : List Event) (e : Event) → AllByRecursion (λ (e : Event). P e.note) (out ++ e ∷ [])
+    → AllByRecursion (λ (e : Event). P e.note) out × P e.note
 push_so P [] e all = (tt, all.0)
 push_so P (x ∷ out) e all = let more = push_so P out e all.1 in ((all.0, more.0), more.1)
 
@@ -35,11 +36,15 @@ pub tells_same : (P : Note → Type 0) (v w : EventWalk) (X : Type 0) → ((out 
 tells_same P v w X e g = record { sound = λ out all. g.sound out (subst (AllSo P) (e out) all) }
 
 -- walks in turn
-pub tells_in_turn : {A : Type 0} (P : Note → Type 0) (w : A → EventWalk) (X : A → Type 0) (xs : List A) → ((x : A) → Tells P (w x) (X x)) → Tells P (in_turn (map w xs)) (AllByRecursion X xs)
+pub tells_in_turn : {A : Type 0} (P : Note → Type 0) (w : A → EventWalk) (X : A → Type 0) (xs : List A)
+    → ((x : A) → Tells P (w x) (X x)) → Tells P (in_turn (map w xs)) (AllByRecursion X xs)
 tells_in_turn P w X [] each = tells_none P
 tells_in_turn P w X (x ∷ xs) each = tells_then P (w x) (in_turn (map w xs)) (X x) (AllByRecursion X xs) (each x) (tells_in_turn P w X xs each)
 
 -- the same of walks within a statement, where each of these is kept
-pub tells_each : {A : Type 0} (P : Note → Type 0) (w : A → OwnWalk) (K X : A → Type 0) (xs : List A) (owner : ℕ) → Every K xs → ((x : A) → K x → Tells P (w x owner) (X x)) → Tells P (each_walk (map w xs) owner) (AllByRecursion X xs)
+pub tells_each : {A : Type 0} (P : Note → Type 0) (w : A → OwnWalk) (K X : A → Type 0) (xs : List A) (owner : ℕ)
+    → Every K xs → ((x : A) → K x → Tells P (w x owner) (X x))
+    → Tells P (each_walk (map w xs) owner) (AllByRecursion X xs)
 tells_each P w K X [] owner kept each = tells_none P
-tells_each P w K X (x ∷ xs) owner kept each = tells_then P (w x owner) (each_walk (map w xs) owner) (X x) (AllByRecursion X xs) (each x kept.0) (tells_each P w K X xs owner kept.1 each)
+tells_each P w K X (x ∷ xs) owner kept each = tells_then P (w x owner) (each_walk (map w xs) owner) (X x)
+    (AllByRecursion X xs) (each x kept.0) (tells_each P w K X xs owner kept.1 each)

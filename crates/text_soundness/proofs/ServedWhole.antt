@@ -1,5 +1,8 @@
--- In a block that breaks no rule, what an event needs of a name is so by what the names of the whole block stand for.
-use Rattle.std.proofs.Common.{◌≡◌, ℕ, ◌+◌, ◌-◌, ◌<◌, ◌≤◌, Bool, true, false, not, ◌||◌, List, [], ◌∷◌, ◌++◌, length, take, get_or, Some, None, Option, refl, sym, ◌∙◌, ap, subst, rules, arith, suc, zero}
+-- In a block that breaks no rule, what an event needs of a name is so by what the names of the
+-- whole block stand for.
+use Rattle.std.proofs.Common.{◌≡◌, ℕ, ◌+◌, ◌-◌, ◌<◌, ◌≤◌, Bool, true, false, not, ◌||◌, List, []}
+use Rattle.std.proofs.Common.{◌∷◌, ◌++◌, length, take, get_or, Some, None, Option, refl, sym, ◌∙◌}
+use Rattle.std.proofs.Common.{ap, subst, rules, arith, suc, zero}
 use Rattle.std.specs.Prelude.{is_some, if◌then◌else◌}
 use Rattle.std.specs.Str.{bytes_eq}
 use Rattle.std.proofs.lemmas.Slice.Eq.{bytes_eq-Decides}
@@ -9,8 +12,12 @@ use Rattle.std.proofs.lemmas.Option.{slice_get-get_or}
 use Rattle.first_fault.specs.First.{any, last_of, or_else}
 use Rattle.first_fault.proofs.First.{last_push, any_push}
 use Rattle.text_events.specs.declared.role.Meaning.{Meaning}
-use Rattle.text_events.specs.declared.role.Meaning.TheVariants.{Variable, Temporary, File, Field, Label}
-use Rattle.text_events.specs.Note.{Event, Note, Declares, Signals, Signal, Carries, Block, BlockName, Cells, Width, Init, Size, Receives, Names, Begins, Uses, Reads, Counts, Refers, Goes, Searches, Compares, Holds, Chooses, Ends}
+use Rattle.text_events.specs.declared.role.Meaning.TheVariants.{Variable, Temporary, File, Field}
+use Rattle.text_events.specs.declared.role.Meaning.TheVariants.{Label}
+use Rattle.text_events.specs.Note.{Event, Note, Declares, Signals, Signal, Carries, Block}
+use Rattle.text_events.specs.Note.{BlockName, Cells, Width, Init, Size, Receives, Names, Begins}
+use Rattle.text_events.specs.Note.{Uses, Reads, Counts, Refers, Goes, Searches, Compares, Holds}
+use Rattle.text_events.specs.Note.{Chooses, Ends}
 use Rattle.text_events.specs.Named.{meaning_in, meaning_of_note, naming_of}
 use Rattle.text_rules.specs.declared.rule.BlockRule.TheVariants as rule
 use Rattle.text_rules.specs.Blocks.{KnownInBlock, declared_twice, labels, labels_note}
@@ -88,13 +95,18 @@ module _ (text : Text) (f : IsFineText text) where
   more_at i inside = take_more text.whole i no_event inside
 
   -- what a name stands for stays where one event is added
-  stays_once : (n : List ℕ) (m : Meaning) (i : ℕ) → i < length text.whole → naming_of (take i text.whole) n ≡ Some m → naming_of (take (i + 1) text.whole) n ≡ Some m
+  stays_once : (n : List ℕ) (m : Meaning) (i : ℕ) → i < length text.whole → naming_of (take i text.whole) n ≡ Some m
+      → naming_of (take (i + 1) text.whole) n ≡ Some m
   stays_once n m i inside before =
       let e : Event = get_or text.whole i no_event in
-      let fine : declared_twice (known_of text (take i text.whole)) e.note ≡ false = f.each i e rule.DeclaredTwice (slice_get-get_or text.whole i no_event inside) in
-      ap (last_of (meaning_in n)) (more_at i inside) ∙ last_push (meaning_in n) (take i text.whole) e ∙ here e (take i text.whole) (meaning_in n e) refl fine before
+      let fine : declared_twice (known_of text (take i text.whole)) e.note ≡ false =
+      f.each i e rule.DeclaredTwice (slice_get-get_or text.whole i no_event inside) in
+      ap (last_of (meaning_in n)) (more_at i inside) ∙ last_push (meaning_in n) (take i text.whole) e
+      ∙ here e (take i text.whole) (meaning_in n e) refl fine before
     where
-      here : (e : Event) (b : List Event) (o : Option Meaning) → meaning_in n e ≡ o → declared_twice (known_of text b) e.note ≡ false → last_of (meaning_in n) b ≡ Some m → or_else o (last_of (meaning_in n) b) ≡ Some m
+      here : (e : Event) (b : List Event) (o : Option Meaning) → meaning_in n e ≡ o
+          → declared_twice (known_of text b) e.note ≡ false → last_of (meaning_in n) b ≡ Some m
+          → or_else o (last_of (meaning_in n) b) ≡ Some m
       here e b (Some x) is fine before =
           let t : is_some (last_of (meaning_in n) b) ≡ false = sym (twice_is (known_of text b) e.note n x is) ∙ fine in
           let u : is_some (last_of (meaning_in n) b) ≡ true = ap is_some before in
@@ -102,7 +114,8 @@ module _ (text : Text) (f : IsFineText text) where
       here e b None is fine before = before
 
   -- a meaning stays: nothing is declared twice
-  stays : (n : List ℕ) (m : Meaning) (k d : ℕ) → k + d ≤ length text.whole → naming_of (take k text.whole) n ≡ Some m → naming_of (take (k + d) text.whole) n ≡ Some m
+  stays : (n : List ℕ) (m : Meaning) (k d : ℕ) → k + d ≤ length text.whole → naming_of (take k text.whole) n ≡ Some m
+      → naming_of (take (k + d) text.whole) n ≡ Some m
   stays n m k zero low h = subst (λ j. naming_of (take j text.whole) n ≡ Some m) (omega arith) h
   stays n m k (suc d) low h =
       let next : k + d + 1 ≡ k + suc d = omega arith in
@@ -124,10 +137,15 @@ module _ (text : Text) (f : IsFineText text) where
       let e : Event = get_or text.whole i no_event in
       let next : suc i ≡ i + 1 = omega arith in
       let now : any (labels n) (take (i + 1) text.whole) ≡ true = subst (λ j. any (labels n) (take j text.whole) ≡ true) next h in
-      let parts : (any (labels n) (take i text.whole) || labels n e) ≡ true = sym (any_push (labels n) (take i text.whole) e) ∙ sym (ap (any (labels n)) (more_at i (omega arith))) ∙ now in
-      subst (λ j. IsLabelled (naming_of (take j text.whole)) n) (sym next) (here (any (labels n) (take i text.whole)) refl parts (labelled_below n i (omega arith)))
+      let parts : (any (labels n) (take i text.whole) || labels n e)
+      ≡ true = sym (any_push (labels n) (take i text.whole) e) ∙ sym (ap (any (labels n)) (more_at i (omega arith)))
+      ∙ now in
+      subst (λ j. IsLabelled (naming_of (take j text.whole)) n) (sym next)
+      (here (any (labels n) (take i text.whole)) refl parts (labelled_below n i (omega arith)))
     where
-      here : (b : Bool) → any (labels n) (take i text.whole) ≡ b → (b || labels n (get_or text.whole i no_event)) ≡ true → (any (labels n) (take i text.whole) ≡ true → IsLabelled (naming_of (take i text.whole)) n) → IsLabelled (naming_of (take (i + 1) text.whole)) n
+      here : (b : Bool) → any (labels n) (take i text.whole) ≡ b → (b || labels n (get_or text.whole i no_event)) ≡ true
+          → (any (labels n) (take i text.whole) ≡ true → IsLabelled (naming_of (take i text.whole)) n)
+          → IsLabelled (naming_of (take (i + 1) text.whole)) n
       here true is h below =
           let b = below is in
           record { number = b.number; stands = stays_once n (Label b.number) i (omega arith) b.stands }
@@ -136,7 +154,9 @@ module _ (text : Text) (f : IsFineText text) where
           let says = label_says n e.note h in
           record {
             number = says.number;
-            stands = ap (last_of (meaning_in n)) (more_at i (omega arith)) ∙ last_push (meaning_in n) (take i text.whole) e ∙ ap (λ o. or_else o (naming_of (take i text.whole) n)) says.says;
+            stands = ap (last_of (meaning_in n)) (more_at i (omega arith))
+                ∙ last_push (meaning_in n) (take i text.whole) e
+                ∙ ap (λ o. or_else o (naming_of (take i text.whole) n)) says.says;
           }
 
   pub labelled_whole : (n : List ℕ) → any (labels n) text.whole ≡ true → IsLabelled (naming_of text.whole) n
@@ -145,7 +165,8 @@ module _ (text : Text) (f : IsFineText text) where
       subst (λ l. IsLabelled (naming_of l) n) all (labelled_below n (length text.whole) (omega arith) (ap (any (labels n)) all ∙ h))
 
   -- a test that a meaning has to pass is passed by what the whole block declares
-  pub passes : (test : Option Meaning → Bool) → test None ≡ false → (n : List ℕ) (i : ℕ) → i ≤ length text.whole → not (test (naming_of (take i text.whole) n)) ≡ false → test (naming_of text.whole n) ≡ true
+  pub passes : (test : Option Meaning → Bool) → test None ≡ false → (n : List ℕ) (i : ℕ) → i ≤ length text.whole
+      → not (test (naming_of (take i text.whole) n)) ≡ false → test (naming_of text.whole n) ≡ true
   passes test none n i low h = here (naming_of (take i text.whole) n) refl (not-false (test (naming_of (take i text.whole) n)) h)
     where
       here : (o : Option Meaning) → naming_of (take i text.whole) n ≡ o → test (naming_of (take i text.whole) n) ≡ true → test (naming_of text.whole n) ≡ true

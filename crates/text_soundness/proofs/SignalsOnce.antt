@@ -1,5 +1,8 @@
 -- Where a text says no name of signals and no name of blocks twice, these names are distinct.
-use Rattle.std.proofs.Common.{◌≡◌, ℕ, suc, ◌+◌, ◌≤◌, Bool, false, ◌||◌, List, [], ◌∷◌, ◌++◌, length, map, take, Option, Some, None, slice_get, nat_lt, refl, sym, ◌∙◌, ap, subst, arith, filter_map, flat_map, append-nil, append_assoc, length-append}
+use Rattle.std.proofs.Common.{◌≡◌, ℕ, suc, ◌+◌, ◌≤◌, Bool, false, ◌||◌, List, [], ◌∷◌, ◌++◌, length}
+use Rattle.std.proofs.Common.{map, take, Option, Some, None, slice_get, nat_lt, refl, sym, ◌∙◌, ap}
+use Rattle.std.proofs.Common.{subst, arith, filter_map, flat_map, append-nil, append_assoc}
+use Rattle.std.proofs.Common.{length-append}
 use Rattle.std.specs.Str.{bytes_eq}
 use Rattle.std.specs.List.{AllByRecursion, IsDistinct, cons_option}
 use Rattle.std.proofs.lemmas.List.{map-append}
@@ -18,9 +21,11 @@ use Rattle.text_events.specs.Note.{Event, Note}
 use Rattle.text_events.specs.Note as note
 use Rattle.text_events.specs.Walk.{in_turn}
 use Rattle.text_events.specs.Blocks.{block_events, block_head}
-use Rattle.text_events.specs.Texts.{shape_walk, signal_walk, signals_made, signal_events, text_events}
+use Rattle.text_events.specs.Texts.{shape_walk, signal_walk, signals_made, signal_events}
+use Rattle.text_events.specs.Texts.{text_events}
 use Rattle.text_rules.specs.declared.rule.SignalRule.TheVariants.{Once, FewValues}
-use Rattle.text_rules.specs.Signals.{KnownNames, known_of, known_in_part, twice, many_values, signal_note, names_signal, names_block, number_of}
+use Rattle.text_rules.specs.Signals.{KnownNames, known_of, known_in_part, twice, many_values}
+use Rattle.text_rules.specs.Signals.{signal_note, names_signal, names_block, number_of}
 use Rattle.text_rules.specs.Texts.{line_of}
 use Rattle.signal_types.specs.Signals.{kinds_of, shape_kinds, signals_from, signals_of}
 use Rattle.text_soundness.proofs.BuiltText.{total_append}
@@ -30,7 +35,9 @@ use Rattle.text_soundness.proofs.FineParts.{FineParts, signal_broken, fine_event
 
 -- what each event gives, where it gives something
 
-all_picked : {E X : Type 0} (P : X → Type 0) (picks : E → Option X) (list : List E) → ((place : ℕ) (e : E) (x : X) → slice_get list place ≡ Some e → picks e ≡ Some x → P x) → AllByRecursion P (filter_map picks list)
+all_picked : {E X : Type 0} (P : X → Type 0) (picks : E → Option X) (list : List E)
+    → ((place : ℕ) (e : E) (x : X) → slice_get list place ≡ Some e → picks e ≡ Some x → P x)
+    → AllByRecursion P (filter_map picks list)
 all_picked P picks [] h = tt
 all_picked P picks (e ∷ rest) h = here (picks e) refl (all_picked P picks rest (λ place d x at is. h (suc place) d x at is))
   where
@@ -49,23 +56,29 @@ neither a b h = grind arith
 neither_first : (a b : Bool) → (a || b) ≡ false → a ≡ false
 neither_first a b h = grind arith
 
-all_distinct : {E : Type 0} (picks : E → Option (List ℕ)) (list : List E) → ((place : ℕ) (e : E) (n : List ℕ) → slice_get list place ≡ Some e → picks e ≡ Some n → any (λ d. gives (picks d) n) (take place list) ≡ false) → IsDistinct bytes_eq (filter_map picks list)
+all_distinct : {E : Type 0} (picks : E → Option (List ℕ)) (list : List E)
+    → ((place : ℕ) (e : E) (n : List ℕ) → slice_get list place ≡ Some e → picks e ≡ Some n
+    → any (λ d. gives (picks d) n) (take place list) ≡ false) → IsDistinct bytes_eq (filter_map picks list)
 unfolding IsDistinct
 all_distinct picks [] h = tt
 all_distinct picks (e ∷ rest) h =
-    here (picks e) refl (all_distinct picks rest (λ place d n at is. neither (gives (picks e) n) (any (λ d. gives (picks d) n) (take place rest)) (h (suc place) d n at is)))
+    here (picks e) refl (all_distinct picks rest
+    (λ place d n at is. neither (gives (picks e) n) (any (λ d. gives (picks d) n) (take place rest))
+    (h (suc place) d n at is)))
   where
     here : (o : Option (List ℕ)) → picks e ≡ o → IsDistinct bytes_eq (filter_map picks rest) → IsDistinct bytes_eq (cons_option o (filter_map picks rest))
     here None is more = more
     here (Some m) is more = (
       all_picked (λ n. bytes_eq m n ≡ false) picks rest (λ place d n at given.
-          let none : gives (picks e) n ≡ false = neither_first (gives (picks e) n) (any (λ d. gives (picks d) n) (take place rest)) (h (suc place) d n at given) in
+          let none : gives (picks e) n ≡ false = neither_first (gives (picks e) n)
+          (any (λ d. gives (picks d) n) (take place rest)) (h (suc place) d n at given) in
           ap (λ o. gives o n) (sym is) ∙ none),
       more,
     )
 
 pub none_of : (test : Event → Bool) (xs ys : List Event) → any test (xs ++ ys) ≡ false → (any test xs ≡ false) × (any test ys ≡ false)
-none_of test xs ys h = let is : (any test xs || any test ys) ≡ false = sym (any_append test xs ys) ∙ h in (neither_first (any test xs) (any test ys) is, neither (any test xs) (any test ys) is)
+none_of test xs ys h = let is : (any test xs || any test ys) ≡ false = sym (any_append test xs ys)
+    ∙ h in (neither_first (any test xs) (any test ys) is, neither (any test xs) (any test ys) is)
 
 -- the events of a signal after others
 
@@ -73,11 +86,14 @@ abbrev own_shape : ShapeKind → List Event
 own_shape (shape.Buffered level values) = record { line = values.line; note = note.Carries values.value } ∷ []
 own_shape (shape.Direct values) = record { line = values.line; note = note.Carries values.value } ∷ []
 own_shape (shape.Combined values answer answer_values) =
-    record { line = values.line; note = note.Carries values.value } ∷ record { line = answer.line; note = note.Signal answer.name } ∷ record { line = answer_values.line; note = note.Carries answer_values.value } ∷ []
+    record { line = values.line; note = note.Carries values.value }
+    ∷ record { line = answer.line; note = note.Signal answer.name }
+    ∷ record { line = answer_values.line; note = note.Carries answer_values.value } ∷ []
 own_shape (shape.Outside values) = record { line = values.line; note = note.Carries values.value } ∷ []
 
 abbrev own_events : Signal → List Event
-own_events s = record { line = s.line; note = note.Signals (signals_made s.shape.kind) } ∷ record { line = s.name.line; note = note.Signal s.name.name } ∷ own_shape s.shape.kind
+own_events s = record { line = s.line; note = note.Signals (signals_made s.shape.kind) }
+    ∷ record { line = s.name.line; note = note.Signal s.name.name } ∷ own_shape s.shape.kind
 
 shape_is : (k : ShapeKind) (out : List Event) → shape_walk k out ≡ out ++ own_shape k
 shape_is (shape.Buffered level values) out = refl
@@ -89,12 +105,15 @@ signal_is : (s : Signal) (out : List Event) → signal_walk s out ≡ out ++ own
 signal_is s out =
     let first : Event = record { line = s.line; note = note.Signals (signals_made s.shape.kind) } in
     let named : Event = record { line = s.name.line; note = note.Signal s.name.name } in
-    shape_is s.shape.kind ((out ++ first ∷ []) ++ named ∷ []) ∙ append_assoc (out ++ first ∷ []) (named ∷ []) (own_shape s.shape.kind) ∙ append_assoc out (first ∷ []) (named ∷ own_shape s.shape.kind)
+    shape_is s.shape.kind ((out ++ first ∷ []) ++ named ∷ [])
+    ∙ append_assoc (out ++ first ∷ []) (named ∷ []) (own_shape s.shape.kind)
+    ∙ append_assoc out (first ∷ []) (named ∷ own_shape s.shape.kind)
 
 signals_are : (list : List Signal) (out : List Event) → in_turn (map signal_walk list) out ≡ out ++ flat_map own_events list
 signals_are [] out = sym (append-nil out)
 signals_are (s ∷ rest) out =
-    signals_are rest (signal_walk s out) ∙ ap (λ o. o ++ flat_map own_events rest) (signal_is s out) ∙ append_assoc out (own_events s) (flat_map own_events rest)
+    signals_are rest (signal_walk s out) ∙ ap (λ o. o ++ flat_map own_events rest) (signal_is s out)
+    ∙ append_assoc out (own_events s) (flat_map own_events rest)
 
 -- the names of signals, and the numbers of values
 
@@ -138,7 +157,8 @@ signals_once t f = all_distinct (pick signal_in) (signal_events t) (λ place e n
     ∙ sym (signal_twice (known_of (take place (signal_events t))) e.note n is) ∙ (signals_fine t f).each place e Once at)
 
 counts_few : (t : Tree) → FineParts t → AllByRecursion (λ n. n ≤ 8) (filter_map (pick count_in) (signal_events t))
-counts_few t f = all_picked (λ n. n ≤ 8) (pick count_in) (signal_events t) (λ place e n at is. few_values n (sym (count_many e.note n is) ∙ (signals_fine t f).each place e FewValues at))
+counts_few t f = all_picked (λ n. n ≤ 8) (pick count_in) (signal_events t)
+    (λ place e n at is. few_values n (sym (count_many e.note n is) ∙ (signals_fine t f).each place e FewValues at))
 
 -- these are the names and the numbers of the signals
 
@@ -197,7 +217,15 @@ unfolding signals_from
 all_total n [] = refl
 all_total n (s ∷ rest) =
     let m = n + length (kinds_of n s) in
-    omega (arith, total_append (λ (e : Event). signals_note e.note) (own_events s) (flat_map own_events rest), shape_total n s.name.name s.shape.kind, shape_length n s.name.name s.shape.kind, all_total m rest, length-append (kinds_of n s) (signals_from m rest))
+    omega (
+      arith,
+      total_append (λ (e : Event). signals_note e.note) (own_events s) (flat_map own_events rest),
+      shape_total n s.name.name s.shape.kind,
+      shape_length n s.name.name s.shape.kind,
+      all_total m rest,
+      length-append
+          (kinds_of n s) (signals_from m rest),
+    )
 
 pub signals_total : (t : Tree) → total (λ (e : Event). signals_note e.note) (signal_events t) ≡ length (signals_of t)
 signals_total t = ap (total (λ (e : Event). signals_note e.note)) (signals_are t.signals []) ∙ all_total 0 t.signals
@@ -208,31 +236,48 @@ signals_total t = ap (total (λ (e : Event). signals_note e.note)) (signals_are 
 abbrev IsAfter : List Block → List Block → Block → List Block → Type 0
 IsAfter list pre b post = list ≡ pre ++ b ∷ post
 
-each_apart : (m : List ℕ) (list : List Block) → ((pre post : List Block) (b : Block) → IsAfter list pre b post → bytes_eq m b.name.name ≡ false) → AllByRecursion (λ n. bytes_eq m n ≡ false) (map (λ (b : Block). b.name.name) list)
+each_apart : (m : List ℕ) (list : List Block) → ((pre post : List Block) (b : Block) → IsAfter list pre b post
+    → bytes_eq m b.name.name ≡ false) → AllByRecursion (λ n. bytes_eq m n ≡ false)
+    (map (λ (b : Block). b.name.name) list)
 each_apart m [] h = tt
 each_apart m (b ∷ rest) h = (h [] rest b refl, each_apart m rest (λ pre post c is. h (b ∷ pre) post c (ap (λ r. b ∷ r) is)))
 
 named_in : (n : List ℕ) (b : Block) → any (names_block n) (block_events b) ≡ false → bytes_eq b.name.name n ≡ false
 named_in n b h = neither_first (bytes_eq b.name.name n) false (any_front (names_block n) (block_head b) (block_events b) (block_begins b) h)
 
-blocks_apart : (list : List Block) → ((pre post : List Block) (b : Block) → IsAfter list pre b post → any (names_block b.name.name) (joined (map block_events pre)) ≡ false) → IsDistinct bytes_eq (map (λ (b : Block). b.name.name) list)
+blocks_apart : (list : List Block) → ((pre post : List Block) (b : Block) → IsAfter list pre b post
+    → any (names_block b.name.name) (joined (map block_events pre)) ≡ false)
+    → IsDistinct bytes_eq (map (λ (b : Block). b.name.name) list)
 unfolding IsDistinct
 blocks_apart [] h = tt
-blocks_apart (b ∷ rest) h = (each_apart b.name.name rest (λ pre post c is. named_in c.name.name b (both pre post c is).0), blocks_apart rest (λ pre post c is. (both pre post c is).1))
+blocks_apart (b ∷ rest) h = (
+  each_apart b.name.name rest
+      (λ pre post c is. named_in c.name.name b (both pre post c is).0),
+  blocks_apart rest
+      (λ pre post c is. (both pre post c is).1),
+)
   where
-    both : (pre post : List Block) (c : Block) → IsAfter rest pre c post → (any (names_block c.name.name) (block_events b) ≡ false) × (any (names_block c.name.name) (joined (map block_events pre)) ≡ false)
+    both : (pre post : List Block) (c : Block) → IsAfter rest pre c post
+        → (any (names_block c.name.name) (block_events b) ≡ false)
+        × (any (names_block c.name.name) (joined (map block_events pre)) ≡ false)
     both pre post c is = none_of (names_block c.name.name) (block_events b) (joined (map block_events pre)) (h (b ∷ pre) post c (ap (λ r. b ∷ r) is))
 
-block_twice : (t : Tree) → FineParts t → (pre post : List Block) (b : Block) → IsAfter t.blocks pre b post → any (names_block b.name.name) (joined (map block_events pre)) ≡ false
+block_twice : (t : Tree) → FineParts t → (pre post : List Block) (b : Block) → IsAfter t.blocks pre b post
+    → any (names_block b.name.name) (joined (map block_events pre)) ≡ false
 unfolding text_events
 block_twice t f pre post b is =
     let begun = block_begins b in
     let first : Event = record { line = b.line; note = note.Block } in
     let named : Event = record { line = b.name.line; note = note.BlockName b.name.name } in
     let before = map block_events pre in
-    let parts : text_events t ≡ (signal_events t ∷ before) ++ block_events b ∷ map block_events post = ap (λ r. signal_events t ∷ r) (ap (map block_events) is ∙ map-append block_events pre (b ∷ post)) in
-    let whole = fine_event signal_broken number_of line_of known_in_part (text_events t) f.signals (signal_events t ∷ before) (map block_events post) (block_events b) (first ∷ []) begun.more named Once parts begun.same in
-    (none_of (names_block b.name.name) (signal_events t) (joined before) (none_of (names_block b.name.name) (joined (signal_events t ∷ before)) (first ∷ []) whole).0).1
+    let parts : text_events t ≡ (signal_events t ∷ before)
+    ++ block_events b ∷ map block_events post = ap (λ r. signal_events t ∷ r)
+    (ap (map block_events) is ∙ map-append block_events pre (b ∷ post)) in
+    let whole = fine_event signal_broken number_of line_of known_in_part (text_events t) f.signals
+    (signal_events t ∷ before) (map block_events post) (block_events b) (first ∷ []) begun.more named Once parts
+    begun.same in
+    (none_of (names_block b.name.name) (signal_events t) (joined before)
+    (none_of (names_block b.name.name) (joined (signal_events t ∷ before)) (first ∷ []) whole).0).1
 
 pub blocks_distinct : (t : Tree) → FineParts t → IsDistinct bytes_eq (map (λ (b : Block). b.name.name) t.blocks)
 blocks_distinct t f = blocks_apart t.blocks (block_twice t f)

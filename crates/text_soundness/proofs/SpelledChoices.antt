@@ -1,5 +1,7 @@
--- The choices of the CASEs of a text are no more than its tokens: each is spelled with a WHEN of its own.
-use Rattle.std.proofs.Common.{◌≡◌, ℕ, ◌+◌, ◌≤◌, zero, suc, Bool, true, List, [], ◌∷◌, length, map, Option, Some, None, sym, ◌∙◌, ap, subst, arith, length-append}
+-- The choices of the CASEs of a text are no more than its tokens: each is spelled with a WHEN of
+-- its own.
+use Rattle.std.proofs.Common.{◌≡◌, ℕ, ◌+◌, ◌≤◌, zero, suc, Bool, true, List, [], ◌∷◌, length, map}
+use Rattle.std.proofs.Common.{Option, Some, None, sym, ◌∙◌, ap, subst, arith, length-append}
 use Rattle.plex_lexer.specs.declared.token.Token.{Token}
 use Rattle.token_grammar.specs.Language.{Lang, word, ◌·◌, on, each}
 use Rattle.plex_ast.specs.declared.stmt.Stmt.{Stmt}
@@ -10,14 +12,17 @@ use Rattle.plex_ast.specs.Words.{WHEN}
 use Rattle.plex_ast.specs.Grammar.{when_with, kind_at, stmt_with, body}
 use Rattle.exchange_model.specs.declared.expr.Expr.{Expr as MExpr}
 use Rattle.exchange_model.specs.declared.stmt.Stmt.{Stmt as MStmt}
-use Rattle.exchange_model.specs.declared.stmt.When.{When as MWhen, out-When as mout-When, out-roll-When}
-use Rattle.exchange_model.specs.declared.stmt.StmtKind.{StmtKind as MKind, StmtKind-F as MKind-F, out-StmtKind as mout-StmtKind}
+use Rattle.exchange_model.specs.declared.stmt.When.{When as MWhen, out-When as mout-When}
+use Rattle.exchange_model.specs.declared.stmt.When.{out-roll-When}
+use Rattle.exchange_model.specs.declared.stmt.StmtKind.{StmtKind as MKind, StmtKind-F as MKind-F}
+use Rattle.exchange_model.specs.declared.stmt.StmtKind.{out-StmtKind as mout-StmtKind}
 use Rattle.exchange_model.specs.declared.stmt.StmtKind.TheVariants as stmt
 use Rattle.exchange_model.specs.Inside.{total, inner_whens, when_count}
 use Rattle.exchange_model.specs.PartCounts.{when_whens, parts_whens}
 use Rattle.exchange_model.proofs.Counted.{inner_whens-out}
 use Rattle.text_events.specs.declared.role.Meaning.{Meaning}
-use Rattle.text_events.specs.declared.role.Meaning.TheVariants.{Variable, Temporary, File, Field, Label}
+use Rattle.text_events.specs.declared.role.Meaning.TheVariants.{Variable, Temporary, File, Field}
+use Rattle.text_events.specs.declared.role.Meaning.TheVariants.{Label}
 use Rattle.resolved_block.specs.Meant.{target_in}
 use Rattle.resolved_block.specs.Names.{Env}
 use Rattle.resolved_block.specs.Statements.{in_turn, kind_layer, typed_stmt, typed_when, typed_list}
@@ -87,13 +92,20 @@ module _ (env : Env) where
   module _ (b : ℕ) (B : List Stmt → Lang) (inside : (xs : List Stmt) (p : ℕ) → AtLeast (when_count (typed_list env xs p).0) (B xs)) where
     when_least : (w : When) (p : ℕ) → AtLeast (1 + when_whens (typed_when env w p).0) (when_with true B w)
     when_least w p =
-        let made : (mout-When (typed_when env w p).0).body ≡ (typed_list env (out-When w).body p).0 = ap (λ m. (mout-When m.0).body) (typed_when-at env w p) ∙ ap (λ l. l.body) (out-roll-When (record { number = (out-When w).number.value; body = (typed_list env (out-When w).body p).0 })) in
+        let made : (mout-When (typed_when env w p).0).body
+        ≡ (typed_list env (out-When w).body p).0 = ap (λ m. (mout-When m.0).body) (typed_when-at env w p)
+        ∙ ap (λ l. l.body) (out-roll-When (record
+        { number = (out-When w).number.value; body = (typed_list env (out-When w).body p).0 })) in
         least_same (ap (λ list. 1 + when_count list) made) (least_on (least_then (least_word WHEN) (least_after (least_after (inside (out-When w).body p)))))
 
-    whens_least : (ws : List When) (p : ℕ) → AtLeast (length (in_turn (map (typed_when env) ws) p).0 + total (map when_whens (in_turn (map (typed_when env) ws) p).0)) (each (when_with true B) ws)
+    whens_least : (ws : List When) (p : ℕ) → AtLeast
+        (length (in_turn (map (typed_when env) ws) p).0
+        + total (map when_whens (in_turn (map (typed_when env) ws) p).0)) (each (when_with true B) ws)
     whens_least [] p = least_none
     whens_least (w ∷ ws) p =
-        least_same (moved (length (in_turn (map (typed_when env) ws) (typed_when env w p).1).0) (when_whens (typed_when env w p).0) (total (map when_whens (in_turn (map (typed_when env) ws) (typed_when env w p).1).0)))
+        least_same (moved (length (in_turn (map (typed_when env) ws) (typed_when env w p).1).0)
+        (when_whens (typed_when env w p).0)
+        (total (map when_whens (in_turn (map (typed_when env) ws) (typed_when env w p).1).0)))
         (least_then (when_least w p) (whens_least ws (typed_when env w p).1))
       where
         moved : (a b c : ℕ) → suc a + (b + c) ≡ (1 + b) + (a + c)
@@ -107,12 +119,18 @@ module _ (env : Env) where
     kind_least (tree.If c list None) p =
         least_same (layer_whens _ _ (stmt.outs-If _ _ _)) (least_after (least_after (least_after (least_then (inside list p) least_none))))
     kind_least (tree.If c list (Some other)) p =
-        least_same (layer_whens _ _ (stmt.outs-If _ _ _)) (least_after (least_after (least_after (least_then (inside list p) (least_before (least_after (inside other (typed_list env list p).1)))))))
+        least_same (layer_whens _ _ (stmt.outs-If _ _ _))
+        (least_after (least_after (least_after
+        (least_then (inside list p) (least_before (least_after (inside other (typed_list env list p).1)))))))
     kind_least (tree.Case e whens other) p =
         least_same (layer_whens _ _ (stmt.outs-Case _ _ _))
-        (least_after (least_after (least_after (least_then (whens_least whens p) (least_after (least_after (least_before (inside other (in_turn (map (typed_when env) whens) p).1))))))))
+        (least_after (least_after (least_after
+        (least_then (whens_least whens p) (least_after
+        (least_after (least_before (inside other (in_turn (map (typed_when env) whens) p).1))))))))
     kind_least (tree.On n from upto list) p =
-        least_same (layer_whens _ _ (stmt.outs-On _ _ _ _)) (least_after (least_after (least_after (least_after (least_after (least_after (least_after (least_before (inside list p)))))))))
+        least_same (layer_whens _ _ (stmt.outs-On _ _ _ _))
+        (least_after (least_after (least_after
+        (least_after (least_after (least_after (least_after (least_before (inside list p)))))))))
     kind_least (tree.ForFirst n file field r e l) p = least_same (layer_whens _ _ (stmt.outs-ForFirst _ _ _ _ _ _)) least_none
     kind_least (tree.Send n r es fresh) p = least_same (layer_whens _ _ (stmt.outs-Send _ _ _ _)) least_none
     kind_least (tree.Retrieve n ns) p = least_same (layer_whens _ _ (stmt.outs-Retrieve _ _)) least_none

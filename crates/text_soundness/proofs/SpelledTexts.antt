@@ -17,8 +17,11 @@ use Rattle.resolved_block.specs.declared.parts.First.{First}
 use Rattle.resolved_block.specs.Names.{Env}
 use Rattle.resolved_block.specs.Statements.{typed_stmt}
 use Rattle.resolved_block.specs.Blocks.{kind_made, items_made, ended, env_of, typed_of}
-use Rattle.resolved_block.specs.Texts.{none_before, typed_from, exchange_of, exchange_of_tree, choices_in}
-use Rattle.text_soundness.proofs.SpelledChoices.{AtLeast, least_none, least_then, least_after, least_before, least_on, least_same, layer_whens, stmt_least, body_least}
+use Rattle.resolved_block.specs.Texts.{none_before, typed_from, exchange_of, exchange_of_tree}
+use Rattle.resolved_block.specs.Texts.{choices_in}
+use Rattle.text_soundness.proofs.SpelledChoices.{AtLeast, least_none, least_then, least_after}
+use Rattle.text_soundness.proofs.SpelledChoices.{least_before, least_on, least_same, layer_whens}
+use Rattle.text_soundness.proofs.SpelledChoices.{stmt_least, body_least}
 
 module _ (env : Env) (b n : ℕ) where
   pub items_least : (xs : List Item) (p : ℕ) → AtLeast (when_count (items_made env xs p).0) (each (item true b n) xs)
@@ -26,7 +29,9 @@ module _ (env : Env) (b n : ℕ) where
   items_least [] p = least_none
   items_least (x ∷ xs) p = here x.kind (items_least xs)
     where
-      here : (kind : ItemKind) → ((q : ℕ) → AtLeast (when_count (items_made env xs q).0) (each (item true b n) xs)) → AtLeast (when_count (kind_made env x.line kind (items_made env xs) p).0) (on true x.line (item_at true b n kind) · each (item true b n) xs)
+      here : (kind : ItemKind) → ((q : ℕ) → AtLeast (when_count (items_made env xs q).0) (each (item true b n) xs))
+          → AtLeast (when_count (kind_made env x.line kind (items_made env xs) p).0)
+          (on true x.line (item_at true b n kind) · each (item true b n) xs)
       here (items.Label l) rest = least_after (rest p)
       here (items.Enter s ns) rest = least_same (none_more _ _ (layer_whens _ _ (stmt.outs-Enter _ _))) (least_after (rest ((p + 1))))
         where
@@ -51,9 +56,14 @@ module _ (signals : List SignalKind) (among : List Block) where
   block_least first k =
       let env = env_of signals among first k in
       least_same (ended_count k.end_line (items_made env k.items (first.point)))
-      (least_on (least_after (least_after (least_after (least_after (least_after (least_after (least_after (least_after (least_after (least_after (least_after (least_before (items_least env 6 12 k.items (first.point)))))))))))))))
+      (least_on (least_after (least_after (least_after
+      (least_after (least_after (least_after
+      (least_after (least_after (least_after
+      (least_after (least_after (least_before (items_least env 6 12 k.items (first.point)))))))))))))))
 
-  blocks_least : (ks : List Block) (first : First) → AtLeast (total (map (λ (k : MBlock). when_count k.body) (typed_from signals among first ks))) (each (block true 6 12) ks)
+  blocks_least : (ks : List Block) (first : First)
+      → AtLeast (total (map (λ (k : MBlock). when_count k.body) (typed_from signals among first ks)))
+      (each (block true 6 12) ks)
   unfolding typed_from
   blocks_least [] first = least_none
   blocks_least (k ∷ ks) first = least_then (block_least first k) (blocks_least ks (typed_of signals among first k).next)

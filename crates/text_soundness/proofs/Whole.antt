@@ -1,5 +1,6 @@
 -- A text that breaks no rule means an exchange: the shares put together.
-use Rattle.std.proofs.Common.{◌≡◌, ℕ, true, List, [], ◌∷◌, Option, Some, None, length, map, suc, zero, slice_get, refl, sym, ◌∙◌, ap, subst, nat_eq}
+use Rattle.std.proofs.Common.{◌≡◌, ℕ, true, List, [], ◌∷◌, Option, Some, None, length, map, suc}
+use Rattle.std.proofs.Common.{zero, slice_get, refl, sym, ◌∙◌, ap, subst, nat_eq}
 use Rattle.std.specs.Prelude.{Contains}
 use Rattle.std.specs.List.{AllByRecursion, IsDistinct}
 use Rattle.std.proofs.lemmas.Option.{same_Some}
@@ -10,7 +11,8 @@ use Rattle.exchange_model.specs.declared.stmt.Stmt.{Stmt}
 use Rattle.exchange_model.specs.declared.stmt.StmtKind.TheOpen as layer
 use Rattle.exchange_model.specs.declared.signal.SignalKind.{SignalKind}
 use Rattle.exchange_model.specs.Fits.{Scope, LayerFits, KindNames, Receives}
-use Rattle.exchange_model.specs.Kept.{BlockKept, CanBeSent, IsExchange, SignalsKept, enters_from, scope_of}
+use Rattle.exchange_model.specs.Kept.{BlockKept, CanBeSent, IsExchange, SignalsKept, enters_from}
+use Rattle.exchange_model.specs.Kept.{scope_of}
 use Rattle.plex_ast.specs.declared.block.Block.{Block as TreeBlock}
 use Rattle.plex_ast.specs.declared.tree.Tree.{Tree}
 use Rattle.kept_trees.specs.Keeps.{Every, KeepsBlock}
@@ -19,7 +21,8 @@ use Rattle.text_events.specs.Blocks.{block_events}
 use Rattle.text_rules.specs.Surveys.{receives, sends, is_so, receives_at}
 use Rattle.resolved_block.specs.declared.parts.First.{First}
 use Rattle.resolved_block.specs.Blocks.{env_of, typed_of, sends_of}
-use Rattle.resolved_block.specs.Texts.{none_before, typed_from, typed_blocks, exchange_of, exchange_of_tree}
+use Rattle.resolved_block.specs.Texts.{none_before, typed_from, typed_blocks, exchange_of}
+use Rattle.resolved_block.specs.Texts.{exchange_of_tree}
 use Rattle.text_soundness.specs.Blocks.{IsDeclared, IsBuilt, IsNamed}
 use Rattle.exchange_model.specs.Everywhere.{Layer, AllIn}
 use Rattle.text_soundness.specs.Fine.{IsFineBlock, IsFineTree}
@@ -27,7 +30,8 @@ use Rattle.text_soundness.specs.Meanings.{Suits}
 use Rattle.text_soundness.specs.Shares.{NamesStand, NamesOf, PartsStand, ChoosesOnce}
 use Rattle.text_soundness.proofs.BuiltBody.{fine_blocks, block_made, body_is}
 use Rattle.text_soundness.proofs.Declared.{blocks_are_declared}
-use Rattle.text_soundness.proofs.Enters.{number_of_name, numbers_entered, numbers_are, entered_once, entered_there, received_is_entered, sent_is_announced}
+use Rattle.text_soundness.proofs.Enters.{number_of_name, numbers_entered, numbers_are, entered_once}
+use Rattle.text_soundness.proofs.Enters.{entered_there, received_is_entered, sent_is_announced}
 use Rattle.text_soundness.proofs.FineParts.{FineParts, fine_parts, fine_block}
 use Rattle.text_soundness.proofs.Joined.{all_joined}
 use Rattle.text_soundness.proofs.LimitedTexts.{signals_few, blocks_few, limited, names_apart}
@@ -85,16 +89,20 @@ blocks_are : (t : Tree) → (exchange_of_tree t).blocks ≡ typed_blocks t
 unfolding exchange_of
 blocks_are t = refl
 
-entered_is : (kinds : List SignalKind) (blocks : List TreeBlock) (first : First) (tree : TreeBlock) → (typed_of kinds blocks first tree).block.enters ≡ enters_from 0 (typed_of kinds blocks first tree).block.body
+entered_is : (kinds : List SignalKind) (blocks : List TreeBlock) (first : First) (tree : TreeBlock)
+    → (typed_of kinds blocks first tree).block.enters ≡ enters_from 0 (typed_of kinds blocks first tree).block.body
 unfolding typed_of
 entered_is kinds blocks first tree = refl
 
-sends_are : (kinds : List SignalKind) (blocks : List TreeBlock) (first : First) (tree : TreeBlock) → (typed_of kinds blocks first tree).block.sends ≡ sends_of (env_of kinds blocks first tree) tree
+sends_are : (kinds : List SignalKind) (blocks : List TreeBlock) (first : First) (tree : TreeBlock)
+    → (typed_of kinds blocks first tree).block.sends ≡ sends_of (env_of kinds blocks first tree) tree
 unfolding typed_of
 sends_are kinds blocks first tree = refl
 
 -- the signals that a block enters
-enter_numbers : (kinds : List SignalKind) (blocks : List TreeBlock) (first : First) (tree : TreeBlock) → KeepsBlock 6 12 tree → map (λ (r : Row). r.signal) (typed_of kinds blocks first tree).block.enters ≡ numbers_entered kinds tree.items
+enter_numbers : (kinds : List SignalKind) (blocks : List TreeBlock) (first : First) (tree : TreeBlock)
+    → KeepsBlock 6 12 tree → map (λ (r : Row). r.signal) (typed_of kinds blocks first tree).block.enters
+    ≡ numbers_entered kinds tree.items
 enter_numbers kinds blocks first tree keeps =
     let k = (typed_of kinds blocks first tree).block in
     let s : Scope = record { signals = kinds; blocks = []; files = []; number = 0; block = k } in
@@ -106,11 +114,14 @@ record TypedAt (kinds : List SignalKind) (blocks typed : List TreeBlock) (start 
   pub first : First
   pub there : slice_get (typed_from kinds blocks start typed) b ≡ Some (typed_of kinds blocks first tree).block
 
-typed_at : (kinds : List SignalKind) (blocks list : List TreeBlock) (start : First) (b : ℕ) (tree : TreeBlock) → slice_get list b ≡ Some tree → TypedAt kinds blocks list start b tree
+typed_at : (kinds : List SignalKind) (blocks list : List TreeBlock) (start : First) (b : ℕ) (tree : TreeBlock)
+    → slice_get list b ≡ Some tree → TypedAt kinds blocks list start b tree
 unfolding typed_from
 typed_at kinds blocks [] start b tree at = cc
-typed_at kinds blocks (k ∷ rest) start zero tree at = record { first = start; there = ap (λ (x : TreeBlock). Some (typed_of kinds blocks start x).block) (same_Some k tree at) }
-typed_at kinds blocks (k ∷ rest) start (suc b) tree at = let more = typed_at kinds blocks rest (typed_of kinds blocks start k).next b tree at in record { first = more.first; there = more.there }
+typed_at kinds blocks (k ∷ rest) start zero tree at = record
+    { first = start; there = ap (λ (x : TreeBlock). Some (typed_of kinds blocks start x).block) (same_Some k tree at) }
+typed_at kinds blocks (k ∷ rest) start (suc b) tree at = let more = typed_at kinds blocks rest
+    (typed_of kinds blocks start k).next b tree at in record { first = more.first; there = more.there }
 
 typed_length : (kinds : List SignalKind) (blocks list : List TreeBlock) (start : First) → length list ≡ length (typed_from kinds blocks start list)
 unfolding typed_from
@@ -119,10 +130,12 @@ typed_length kinds blocks (k ∷ rest) start = ap suc (typed_length kinds blocks
 
 module _ (t : Tree) (spelled : Every (KeepsBlock 6 12) t.blocks) (f : FineParts t) where
   -- a block whose survey receives a signal receives it
-  received : (b : ℕ) (k : Block) (c : ℕ) (n : List ℕ) → receives_at t.blocks c n ≡ true → Receives (scope_of (exchange_of_tree t) b k) c (number_of_name (exchange_of_tree t).signals n)
+  received : (b : ℕ) (k : Block) (c : ℕ) (n : List ℕ) → receives_at t.blocks c n ≡ true
+      → Receives (scope_of (exchange_of_tree t) b k) c (number_of_name (exchange_of_tree t).signals n)
   received b k c n h = here (slice_get t.blocks c) refl h
     where
-      here : (o : Option TreeBlock) → slice_get t.blocks c ≡ o → is_so (receives n) o ≡ true → Receives (scope_of (exchange_of_tree t) b k) c (number_of_name (exchange_of_tree t).signals n)
+      here : (o : Option TreeBlock) → slice_get t.blocks c ≡ o → is_so (receives n) o ≡ true
+          → Receives (scope_of (exchange_of_tree t) b k) c (number_of_name (exchange_of_tree t).signals n)
       here None at h = cc
       here (Some tree) at h =
           let kinds = signals_of t in
@@ -133,7 +146,9 @@ module _ (t : Tree) (spelled : Every (KeepsBlock 6 12) t.blocks) (f : FineParts 
           record {
             receiver = (typed_of kinds t.blocks typed.first tree).block;
             there = ap (λ bs. slice_get bs c) (blocks_are t) ∙ typed.there;
-            enters = subst (λ ks. Contains (map (λ (r : Row). r.signal) (typed_of kinds t.blocks typed.first tree).block.enters) (number_of_name ks n)) (sym (signals_are t)) (subst (λ ns. Contains ns (number_of_name kinds n)) (sym numbers) has);
+            enters = subst (λ ks. Contains (map (λ (r : Row). r.signal)
+                (typed_of kinds t.blocks typed.first tree).block.enters) (number_of_name ks n)) (sym (signals_are t))
+                (subst (λ ns. Contains ns (number_of_name kinds n)) (sym numbers) has);
           }
 
   block_kept : (b : ℕ) (k : Block) → slice_get (exchange_of_tree t).blocks b ≡ Some k → BlockKept (exchange_of_tree t) b k
@@ -147,7 +162,9 @@ module _ (t : Tree) (spelled : Every (KeepsBlock 6 12) t.blocks) (f : FineParts 
       let built : IsBuilt s = fine_blocks kinds t.blocks x.first x.tree s fine keeps (signals_are t) x.same in
       let announced : (n : List ℕ) → sends n x.tree ≡ true → Contains k.sends (number_of_name (exchange_of_tree t).signals n) = λ n h.
       subst (λ ks. Contains k.sends (number_of_name ks n)) (sym (signals_are t))
-      (subst (λ ns. Contains ns (number_of_name kinds n)) (sym (ap (λ (y : Block). y.sends) x.same ∙ sends_are kinds t.blocks x.first x.tree)) (sent_is_announced (env_of kinds t.blocks x.first x.tree) x.tree n h)) in
+      (subst (λ ns. Contains ns (number_of_name kinds n))
+      (sym (ap (λ (y : Block). y.sends) x.same ∙ sends_are kinds t.blocks x.first x.tree))
+      (sent_is_announced (env_of kinds t.blocks x.first x.tree) x.tree n h)) in
       let standing : Standing s x.first.file (block_events x.tree) t.blocks x.tree = record {
         placed = x.placed;
         suits = λ n m stands. subst (λ y. Suits y m) (sym x.same) (meanings_are_suited kinds t.blocks x.first x.tree n m stands);
@@ -164,7 +181,9 @@ module _ (t : Tree) (spelled : Every (KeepsBlock 6 12) t.blocks) (f : FineParts 
         sends = subst (λ g. AllByRecursion (λ signal. CanBeSent (slice_get g signal)) k.sends) (sym (signals_are t)) declared.sends;
         sends_once = declared.sends_once;
         enters = subst (λ (y : Block). y.enters ≡ enters_from 0 y.body) (sym x.same) (entered_is kinds t.blocks x.first x.tree);
-        enters_once = subst (λ (y : Block). IsDistinct nat_eq (map (λ (r : Row). r.signal) y.enters)) (sym x.same) (subst (IsDistinct nat_eq) (sym (enter_numbers kinds t.blocks x.first x.tree keeps)) (entered_once kinds t.blocks x.tree fine));
+        enters_once = subst (λ (y : Block). IsDistinct nat_eq (map (λ (r : Row). r.signal) y.enters)) (sym x.same)
+            (subst (IsDistinct nat_eq) (sym (enter_numbers kinds t.blocks x.first x.tree keeps))
+            (entered_once kinds t.blocks x.tree fine));
         labels = built.labels;
         text = built.text;
         statements = body_fits s k.body named built.parts;

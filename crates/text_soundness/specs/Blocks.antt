@@ -8,7 +8,8 @@ use Rattle.exchange_model.specs.declared.block.Block.{Block}
 use Rattle.exchange_model.specs.declared.block.File.{File}
 use Rattle.exchange_model.specs.Fits.{Scope, ArePaired}
 use Rattle.exchange_model.specs.Inside.{text_depth}
-use Rattle.exchange_model.specs.Kept.{VariableFits, FileFits, CanBeSent, IsText, IsLabelAt, block_names}
+use Rattle.exchange_model.specs.Kept.{VariableFits, FileFits, CanBeSent, IsText, IsLabelAt}
+use Rattle.exchange_model.specs.Kept.{block_names}
 use Rattle.exchange_model.specs.Everywhere.{AllIn}
 use Rattle.text_soundness.specs.Shares.{NamesStand, PartsStand}
 
@@ -19,7 +20,8 @@ pub record IsFileOf (s : Scope) (file : ℕ) (f : File) : Type 0 where
 
 -- a block in its exchange
 pub record IsPlaced (s : Scope) (first_file : ℕ) : Type 0 where
-  pub files : (i : ℕ) (f : File) → slice_get s.block.files i ≡ Some f → IsFileOf s (first_file + i) f
+  pub files : (i : ℕ) (f : File) → slice_get s.block.files i ≡ Some f
+      → IsFileOf s (first_file + i) f
 
 -- its declarations and its survey
 pub record IsDeclared (signals : List SignalKind) (k : Block) : Type 0 where

@@ -41,10 +41,12 @@ abbrev pub link_broken_at : LinkRule → links.KnownForLinks → Event → Bool
 link_broken_at r k e = links.broken r k e.note
 
 abbrev pub links_known : Text → Block → List Event → List Event → links.KnownForLinks
-links_known text own done before = links.known_of text.signals text.blocks (Some own) (done ++ before) before
+links_known text own done before =
+    links.known_of text.signals text.blocks (Some own) (done ++ before) before
 
 abbrev pub AreFineLinks : Text → Block → List Event → Type 0
-AreFineLinks text own done = IsFine (breaks_at link_broken_at (links_known text own done) text.whole) text.whole
+AreFineLinks text own done =
+    IsFine (breaks_at link_broken_at (links_known text own done) text.whole) text.whole
 
 -- a block among these signals and blocks breaks no rule
 pub record IsFineBlock (signals : List SignalKind) (others : List Block) (b : Block) : Type 0 where

@@ -1,4 +1,5 @@
--- What one layer of a statement of an exchange keeps, in two shares: what its names stand for, and how its parts stand to one another.
+-- What one layer of a statement of an exchange keeps, in two shares: what its names stand for, and
+-- how its parts stand to one another.
 use Rattle.std.specs.Prelude.{◌≤◌, map, nat_eq}
 use Rattle.std.specs.List.{AllByRecursion, IsDistinct}
 use Rattle.plex_limits.specs.declared.limits.TheConstants.{MOST_BRACKETS, MOST_OPERANDS}
@@ -23,7 +24,8 @@ pub record NamesStand (s : Scope) (l : Layer) : Type 0 where
 
 -- a CASE has each number once
 abbrev pub ChoosesOnce : Layer → Type 0
-ChoosesOnce (layer.Case value whens otherwise) = IsDistinct nat_eq (map (λ w. (out-When w).number) whens)
+ChoosesOnce (layer.Case value whens otherwise) =
+    IsDistinct nat_eq (map (λ w. (out-When w).number) whens)
 ChoosesOnce _ = Unit {0}
 
 pub record PartsStand (s : Scope) (l : Layer) : Type 0 where

@@ -12,12 +12,14 @@ ghost use Rattle.text_soundness.specs.Served.{SaidOf};
 
 /// What a block says is so by what the names of the whole block stand for.
 pub fn fine_blocks_are_served()
-    ensures { (signals : List ASignal) (blocks : List ABlock) (b : ABlock) → IsFineBlock signals blocks b → SaidOf signals blocks b }
+    ensures { (signals : List ASignal) (blocks : List ABlock) (b : ABlock)
+        → IsFineBlock signals blocks b → SaidOf signals blocks b }
 {}
 
 /// The choices of the CASEs of a text are no more than its tokens.
 pub fn choices_are_spelled()
-    ensures { (t : ATree) (w : List Token) → tree true 6 12 t w → choices_in (exchange_of_tree t) ≤ length w }
+    ensures { (t : ATree) (w : List Token) → tree true 6 12 t w
+        → choices_in (exchange_of_tree t) ≤ length w }
 {}
 
 /// A text that breaks no rule means an exchange.

@@ -1,5 +1,5 @@
-// What a text means, as a definition: the exchange of its tree, or its first fault. Laws: a text that
-// breaks no rule means an exchange.
+// What a text means, as a definition: the exchange of its tree, or its first fault. Laws: a text
+// that breaks no rule means an exchange.
 #![tactic(auto)]
 
 mod fault;

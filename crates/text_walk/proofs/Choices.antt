@@ -15,16 +15,28 @@ use Rattle.text_events.specs.Note.{Event}
 use Rattle.text_events.specs.Note as note
 use Rattle.text_events.specs.declared.role.Need.TheVariants as need
 use Rattle.text_events.specs.declared.role.Role.TheVariants as role
-use Rattle.text_events.specs.Walk.{OwnWalk, add, expr_walk, factor_kind_walk, added_walk, multiplied_walk, added_walk_at, factor_walk_at, multiplied_walk_at, each_walk, cond_walk, name_walk, names_walk, values_walk, is_there, reference_walk, body_walk, other_walk, kind_own, kind_walk, stmt_walk, when_walk}
-use Rattle.text_events.proofs.Layers.{opened_factor, factor_kind_walk-out, opened_added, added_walk-out, opened_multiplied, multiplied_walk-out, opened, kind_walk-out}
+use Rattle.text_events.specs.Walk.{OwnWalk, add, expr_walk, factor_kind_walk, added_walk}
+use Rattle.text_events.specs.Walk.{multiplied_walk, added_walk_at, factor_walk_at}
+use Rattle.text_events.specs.Walk.{multiplied_walk_at, each_walk, cond_walk, name_walk, names_walk}
+use Rattle.text_events.specs.Walk.{values_walk, is_there, reference_walk, body_walk, other_walk}
+use Rattle.text_events.specs.Walk.{kind_own, kind_walk, stmt_walk, when_walk}
+use Rattle.text_events.proofs.Layers.{opened_factor, factor_kind_walk-out, opened_added}
+use Rattle.text_events.proofs.Layers.{added_walk-out, opened_multiplied, multiplied_walk-out}
+use Rattle.text_events.proofs.Layers.{opened, kind_walk-out}
 
-pub added_is : (a : Added) (l : factors.Added-F Added FactorKind Multiplied Expr Factor Term) (owner : ℕ) (out new : List Event) → out-Added a ≡ l → new ≡ added_walk_at (opened_added l) owner out → new ≡ added_walk a owner out
+pub added_is : (a : Added) (l : factors.Added-F Added FactorKind Multiplied Expr Factor Term) (owner : ℕ)
+    (out new : List Event) → out-Added a ≡ l → new ≡ added_walk_at (opened_added l) owner out
+    → new ≡ added_walk a owner out
 added_is a l owner out new is h = h ∙ sym (ap (λ w. w owner out) (added_walk-out a) ∙ ap (λ x. added_walk_at (opened_added x) owner out) is)
 
-pub multiplied_is : (m : Multiplied) (l : factors.Multiplied-F Added FactorKind Multiplied Expr Factor Term) (owner : ℕ) (out new : List Event) → out-Multiplied m ≡ l → new ≡ multiplied_walk_at (opened_multiplied l) owner out → new ≡ multiplied_walk m owner out
+pub multiplied_is : (m : Multiplied) (l : factors.Multiplied-F Added FactorKind Multiplied Expr Factor Term) (owner : ℕ)
+    (out new : List Event) → out-Multiplied m ≡ l → new ≡ multiplied_walk_at (opened_multiplied l) owner out
+    → new ≡ multiplied_walk m owner out
 multiplied_is m l owner out new is h = h ∙ sym (ap (λ w. w owner out) (multiplied_walk-out m) ∙ ap (λ x. multiplied_walk_at (opened_multiplied x) owner out) is)
 
-pub factor_is : (k : FactorKind) (l : factors.FactorKind-F Added FactorKind Multiplied Expr Factor Term) (owner : ℕ) (out new : List Event) → out-FactorKind k ≡ l → new ≡ factor_walk_at (opened_factor l) owner out → new ≡ factor_kind_walk k owner out
+pub factor_is : (k : FactorKind) (l : factors.FactorKind-F Added FactorKind Multiplied Expr Factor Term) (owner : ℕ)
+    (out new : List Event) → out-FactorKind k ≡ l → new ≡ factor_walk_at (opened_factor l) owner out
+    → new ≡ factor_kind_walk k owner out
 factor_is k l owner out new is h = h ∙ sym (ap (λ w. w owner out) (factor_kind_walk-out k) ∙ ap (λ x. factor_walk_at (opened_factor x) owner out) is)
 
 -- what a statement of this kind has, its parts walked
@@ -37,7 +49,9 @@ parts_walk (layer.SetField n p e) owner out = expr_walk e owner (add p.line (not
 parts_walk (layer.Goto l) owner out = add l.line (note.Goes l.name) out
 parts_walk (layer.IfGoto c l) owner out = add l.line (note.Goes l.name) (cond_walk c owner out)
 parts_walk (layer.ForFirst n file field r e l) owner out =
-    add l.line (note.Goes l.name) (expr_walk e owner (add field.line (note.Compares field.name file.name) (add file.line (note.Searches file.name) (name_walk n out))))
+    add l.line (note.Goes l.name) (expr_walk e owner
+    (add field.line (note.Compares field.name file.name)
+    (add file.line (note.Searches file.name) (name_walk n out))))
 parts_walk (layer.Send n r es fresh) owner out = values_walk es owner (reference_walk r (add n.line (note.Names n.name (role.Sent (is_there r))) out))
 parts_walk (layer.Retrieve n ns) owner out = names_walk ns (add n.line (note.Names n.name role.Answer) out)
 parts_walk (layer.Return n es) owner out = values_walk es owner (add n.line (note.Names n.name role.Answer) out)
@@ -64,5 +78,6 @@ parts_are (layer.Seize n file l) owner out = refl
 parts_are (layer.Free n file) owner out = refl
 parts_are layer.Exit owner out = refl
 
-pub kind_is : (k : StmtKind) (l : StmtKind-F StmtKind Stmt When) (owner : ℕ) (out new : List Event) → out-StmtKind k ≡ l → new ≡ parts_walk l owner out → new ≡ (kind_walk k).walk owner out
+pub kind_is : (k : StmtKind) (l : StmtKind-F StmtKind Stmt When) (owner : ℕ) (out new : List Event) → out-StmtKind k ≡ l
+    → new ≡ parts_walk l owner out → new ≡ (kind_walk k).walk owner out
 kind_is k l owner out new is h = h ∙ sym (ap (λ w. w.walk owner out) (kind_walk-out k) ∙ ap (λ x. kind_own (opened x) owner out) is ∙ parts_are l owner out)

@@ -120,8 +120,9 @@ fn walk_items<'a>(
     Ok(())
 }
 
-/// What stands in a block, in the order of its text; refuses with `Memory` where memory is refused, or where 32 bits have no
-/// next number for a name or an event: in a block of 2^32 of one kind of them.
+/// What stands in a block, in the order of its text; refuses with `Memory` where memory is refused,
+/// or where 32 bits have no next number for a name or an event: in a block of 2^32 of one kind of
+/// them.
 pub(crate) fn walk_block<'a>(alloc: Global, block: &'a Block) -> Result<Seq<Event<'a>>, Memory>
     ensures { IfOk result (λ events. events ≡ block_events block.now) }
 {

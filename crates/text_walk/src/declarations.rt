@@ -3,7 +3,9 @@ ghost use Rattle.std.specs.Prelude.{◌≡◌, ◌+◌, ◌*◌, IfOk, OnOk};
 ghost use Rattle.exchange_model.specs.Cells.{marks};
 ghost use Rattle.text_events.specs.Note as note;
 ghost use Rattle.text_events.specs.Walk.{add};
-ghost use Rattle.text_events.specs.Blocks.{init_walk, width_walk, field_walk, fields_walk, variables_of, temporaries_of, files_of, cells_of, decl_walk, decls_walk};
+ghost use Rattle.text_events.specs.Blocks.{init_walk, width_walk, field_walk, fields_walk};
+ghost use Rattle.text_events.specs.Blocks.{variables_of, temporaries_of, files_of, cells_of};
+ghost use Rattle.text_events.specs.Blocks.{decl_walk, decls_walk};
 
 use crate::pushes::{plus, push, push_field};
 use plex_ast::{Decl, DeclKind, Field, Numbered};

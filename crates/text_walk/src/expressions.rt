@@ -1,7 +1,9 @@
 // What stands in expressions and conditions.
 ghost use Rattle.std.specs.Prelude.{◌≡◌, OnOk, map};
 ghost use Rattle.text_events.specs.Note as note;
-ghost use Rattle.text_events.specs.Walk.{add, each_walk, expr_walk, term_walk, factor_walk, factor_kind_walk, added_walk, multiplied_walk, relation_walk, conj_walk, cond_walk, values_walk};
+ghost use Rattle.text_events.specs.Walk.{add, each_walk, expr_walk, term_walk, factor_walk};
+ghost use Rattle.text_events.specs.Walk.{factor_kind_walk, added_walk, multiplied_walk};
+ghost use Rattle.text_events.specs.Walk.{relation_walk, conj_walk, cond_walk, values_walk};
 
 use crate::pushes::{push, push_use};
 use plex_ast::{

@@ -39,7 +39,8 @@ pub(crate) fn push_field<'a>(
     file: u32,
     field: u32,
 ) -> Result<(), Memory>
-    ensures { OnOk result (out.new ≡ add name.now.line (note.Declares name.now.name (meanings.Field file field)) out.old) }
+    ensures { OnOk result (out.new ≡ add name.now.line
+        (note.Declares name.now.name (meanings.Field file field)) out.old) }
 {
     let here = Boxed::new(alloc, FieldHere { file, field, name })?;
     push(out, PackedEvent::Field(here))?;
@@ -53,7 +54,8 @@ pub(crate) fn push_compared<'a>(
     file: &'a Named,
     field: &'a Named,
 ) -> Result<(), Memory>
-    ensures { OnOk result (out.new ≡ add field.now.line (note.Compares field.now.name file.now.name) out.old) }
+    ensures { OnOk result (out.new ≡ add field.now.line (note.Compares field.now.name file.now.name)
+        out.old) }
 {
     let both = Boxed::new(alloc, Compared { field, file })?;
     push(out, PackedEvent::Compares(both))?;

@@ -1,7 +1,9 @@
 // What stands in statements.
 ghost use Rattle.std.specs.Prelude.{◌≡◌, OnOk, map};
 ghost use Rattle.text_events.specs.Note as note;
-ghost use Rattle.text_events.specs.Walk.{add, in_turn, each_walk, name_walk, names_walk, reference_walk, stmt_walk, body_walk, kind_walk, when_walk};
+ghost use Rattle.text_events.specs.Walk.{add, in_turn, each_walk, name_walk, names_walk};
+ghost use Rattle.text_events.specs.Walk.{reference_walk, stmt_walk, body_walk, kind_walk};
+ghost use Rattle.text_events.specs.Walk.{when_walk};
 
 use crate::expressions::{walk_cond, walk_expr, walk_values};
 use crate::pushes::{narrow, push, push_compared, push_label, push_signal, push_use};
@@ -84,7 +86,8 @@ fn push_searched<'a>(
     file: &'a Named,
     field: &'a Named,
 ) -> Result<(), Memory>
-    ensures { OnOk result (out.new ≡ add field.now.line (note.Compares field.now.name file.now.name) (add file.now.line (note.Searches file.now.name) out.old)) }
+    ensures { OnOk result (out.new ≡ add field.now.line (note.Compares field.now.name file.now.name)
+        (add file.now.line (note.Searches file.now.name) out.old)) }
 {
     let kept = PackedEvent::Searches {
         line: file.line,

@@ -2,7 +2,8 @@
 ghost use Rattle.std.specs.Prelude.{◌≡◌, ◌++◌, [], OnOk, IfOk, map};
 ghost use Rattle.text_events.specs.Walk.{in_turn};
 ghost use Rattle.text_events.specs.Blocks.{block_events};
-ghost use Rattle.text_events.specs.Texts.{name_said, values_said, signals_made, shape_walk, signal_walk, text_events};
+ghost use Rattle.text_events.specs.Texts.{name_said, values_said, signals_made, shape_walk};
+ghost use Rattle.text_events.specs.Texts.{signal_walk, text_events};
 
 use crate::block::walk_block;
 use crate::pushes::push;
@@ -107,8 +108,8 @@ fn walk_blocks<'a>(
     Ok(())
 }
 
-/// What stands in a text, part by part: its signals, and each of its blocks. Refuses with `Memory` where memory is refused, or
-/// where 32 bits have no next number for a name or an event of a block.
+/// What stands in a text, part by part: its signals, and each of its blocks. Refuses with `Memory`
+/// where memory is refused, or where 32 bits have no next number for a name or an event of a block.
 #[tactic(auto, using(crate::proofs::BlockSteps::text_is))]
 pub fn walk_text<'a>(alloc: Global, tree: &'a Tree) -> Result<Seq<Seq<Event<'a>>>, Memory>
     ensures { IfOk result (λ parts. parts ≡ text_events tree.now) }

@@ -1,7 +1,8 @@
 -- The rule of the book, and what its steps tell.
 --
--- There is a list of loans, which only grows. The one pen knows its length, and the loan of each ticket stands at the
--- ticket's number. The table's word never changes: it is there since a seat learns of the rule by a step on a word.
+-- There is a list of loans, which only grows. The one pen knows its length, and the loan of each
+-- ticket stands at the ticket's number. The table's word never changes: it is there since a seat
+-- learns of the rule by a step on a word.
 use Rattle.std.specs.Prelude.{◌≡◌, ℕ, suc, Bool, true, false, List, length}
 use mathlib.Core.Option.{some}
 use lib.ListN.{get_elem?}

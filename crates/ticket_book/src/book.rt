@@ -25,7 +25,8 @@ impl Model for TicketBook {
     ghost view = { λ b. b.table.shared.table_id };
 }
 
-/// What writes the tickets of a book, of which there is one. Contracts see its book, and how many tickets it has written.
+/// What writes the tickets of a book, of which there is one. Contracts see its book, and how many
+/// tickets it has written.
 #[derive(Drop)]
 pub struct Pen {
     written: u64,
@@ -42,7 +43,8 @@ impl Model for Pen {
     ghost invariant = { λ p. IsPen p.written p.seat.table_id p.seat.me };
 }
 
-/// A ticket. Contracts see its book and what it claims: its number, and the loan that it was written for.
+/// A ticket. Contracts see its book and what it claims: its number, and the loan that it was
+/// written for.
 #[derive(Drop)]
 pub struct Ticket {
     number: u64,
@@ -71,7 +73,8 @@ impl TicketBook {
         }
     }
 
-    /// A ticket for the seat's loan. Its number is how many tickets were written before; there must be fewer than 2^64 - 1.
+    /// A ticket for the seat's loan. Its number is how many tickets were written before; there must
+    /// be fewer than 2^64 - 1.
     pub fn write(&self, pen: &mut Pen, seat: &JobSeat) -> Ticket
         requires book { pen.old.0 ≡ self.now }
         requires room { pen.old.1 + 1 < 2 ^ 64 }

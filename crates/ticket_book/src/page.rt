@@ -7,8 +7,8 @@ pub struct Claim {
     pub loan: Lent,
 }
 
-/// What a seat of the book's table is: the pen, which knows how many tickets were written; a ticket; two tickets that met; or a ticket
-/// that was given up.
+/// What a seat of the book's table is: the pen, which knows how many tickets were written; a
+/// ticket; two tickets that met; or a ticket that was given up.
 pub enum Page {
     Writes(u64),
     Claims(Claim),

@@ -1,5 +1,8 @@
--- Readers that are exact, with one token of sight: what that means, one token, and one thing after the other.
-use Rattle.std.proofs.Common.{◌≡◌, ℕ, Bool, true, false, cond, ◌||◌, eqb, List, [], ◌∷◌, ◌++◌, length, Ok, Err, refl, sym, ◌∙◌, ap, subst, inl, inr, append_assoc, ◌⊎◌, eqb-true}
+-- Readers that are exact, with one token of sight: what that means, one token, and one thing after
+-- the other.
+use Rattle.std.proofs.Common.{◌≡◌, ℕ, Bool, true, false, cond, ◌||◌, eqb, List, [], ◌∷◌, ◌++◌}
+use Rattle.std.proofs.Common.{length, Ok, Err, refl, sym, ◌∙◌, ap, subst, inl, inr, append_assoc}
+use Rattle.std.proofs.Common.{◌⊎◌, eqb-true}
 use Rattle.std.proofs.Math.Bool.{or_assoc}
 use Rattle.std.proofs.lemmas.Bool.{cases_Bool, false≢true, or_cases, or_left, or_parts, or_right}
 use Rattle.plex_lexer.specs.declared.token.Token.{Token}
@@ -143,7 +146,8 @@ word_ok : (cs : List ℕ) (t : Token) (ts : List Token) → mem (class t) cs ≡
 unfolding word_of
 word_ok cs t ts h = ap (λ b. cond b (Ok (t, ts)) (Err (record { left = length (t ∷ ts); deep = false }))) h
 
-pub word_bad : (cs : List ℕ) (t : Token) (ts : List Token) → mem (class t) cs ≡ false → word_of cs (t ∷ ts) ≡ Err (record { left = length (t ∷ ts); deep = false })
+pub word_bad : (cs : List ℕ) (t : Token) (ts : List Token) → mem (class t) cs ≡ false
+    → word_of cs (t ∷ ts) ≡ Err (record { left = length (t ∷ ts); deep = false })
 unfolding word_of
 word_bad cs t ts h = ap (λ b. cond b (Ok (t, ts)) (Err (record { left = length (t ∷ ts); deep = false }))) h
 
@@ -162,14 +166,31 @@ Exact-word cs t k = record {
   has = (refl, k);
 }
   where
-    fall : (w : List Token) → ((s : List Token) → SameHead w s → word_of cs s ≡ Err (record { left = length s; deep = false })) → Bad (one cs) (one cs) (word_of cs) (word_of cs) w
-    fall w f = record { p = []; rest = w; deep = false; cut = refl; fails = f; wide = λ _. f; x = t; v = t ∷ []; begun = (refl, k); more = λ d. absurd (false≢true d) }
+    fall : (w : List Token) → ((s : List Token) → SameHead w s
+        → word_of cs s ≡ Err (record { left = length s; deep = false }))
+        → Bad (one cs) (one cs) (word_of cs) (word_of cs) w
+    fall w f = record {
+      p = [];
+      rest = w;
+      deep = false;
+      cut = refl;
+      fails = f;
+      wide = λ _. f;
+      x = t;
+      v = t ∷ [];
+      begun = (refl, k);
+      more = λ d. absurd (false≢true d);
+    }
 
     runs : (w : List Token) → Good (one cs) (word_of cs) (word_of cs) w ⊎ Bad (one cs) (one cs) (word_of cs) (word_of cs) w
-    runs [] = inr (fall [] (λ s h. elim s as (λ s. SameHead [] s → word_of cs s ≡ Err (record { left = length s; deep = false })) [ [] ↦ λ _. word_end cs | y ∷ ys ↦ λ h. absurd h ] h))
+    runs [] = inr (fall [] (λ s h. elim s as (λ s. SameHead [] s
+        → word_of cs s ≡ Err (record { left = length s; deep = false }))
+        [ [] ↦ λ _. word_end cs | y ∷ ys ↦ λ h. absurd h ] h))
     runs (y ∷ ys) = elim (cases_Bool (mem (class y) cs)) [
       | inl e ↦ inl (record { x = y; u = y ∷ []; rest = ys; cut = refl; spells = (refl, e); again = λ s h. word_ok cs y s e; wide = λ s h. word_ok cs y s e })
-      | inr e ↦ inr (fall (y ∷ ys) (λ s h. elim s as (λ s. SameHead (y ∷ ys) s → word_of cs s ≡ Err (record { left = length s; deep = false })) [ [] ↦ λ h. absurd h | z ∷ zs ↦ λ h. word_bad cs z zs (ap (λ a. mem (class a) cs) (sym h) ∙ e) ] h))
+      | inr e ↦ inr (fall (y ∷ ys) (λ s h. elim s as
+          (λ s. SameHead (y ∷ ys) s → word_of cs s ≡ Err (record { left = length s; deep = false }))
+          [ [] ↦ λ h. absurd h | z ∷ zs ↦ λ h. word_bad cs z zs (ap (λ a. mem (class a) cs) (sym h) ∙ e) ] h))
     ]
 
 -- one after the other
@@ -218,15 +239,18 @@ stops_after g l m e (t ∷ v) w b a h = apart_mem g l (class t) a b
 module _ {A B C : Type 0} (h : A → B → C) (L L' : A → Lang) (N N' : B → Lang) (r q : Reader A) (s p : Reader B) where
   unfoldable pub both_good : (w : List Token) (g : Good L r q w) → Good N s p g.rest → Good (Both h L N) (both h r s) (both h q p) w
   both_good w g k =
-      let same : (z : List Token) → SameHead k.rest z → SameHead g.rest (k.u ++ z) = λ z d. subst (λ y. SameHead y (k.u ++ z)) (sym k.cut) (SameHead-append k.u k.rest z d) in
+      let same : (z : List Token) → SameHead k.rest z → SameHead g.rest (k.u ++ z) =
+      λ z d. subst (λ y. SameHead y (k.u ++ z)) (sym k.cut) (SameHead-append k.u k.rest z d) in
       record {
         x = h g.x k.x;
         u = g.u ++ k.u;
         rest = k.rest;
         cut = g.cut ∙ ap (λ z. g.u ++ z) k.cut ∙ sym (append_assoc g.u k.u k.rest);
         spells = (g.x, k.x, refl, (g.u, k.u, refl, g.spells, k.spells));
-        again = λ z d. ap (both h r s) (append_assoc g.u k.u z) ∙ both_ok h r s (g.u ++ (k.u ++ z)) (k.u ++ z) z g.x k.x (g.again (k.u ++ z) (same z d)) (k.again z d);
-        wide = λ z d. ap (both h q p) (append_assoc g.u k.u z) ∙ both_ok h q p (g.u ++ (k.u ++ z)) (k.u ++ z) z g.x k.x (g.wide (k.u ++ z) (same z d)) (k.wide z d);
+        again = λ z d. ap (both h r s) (append_assoc g.u k.u z)
+            ∙ both_ok h r s (g.u ++ (k.u ++ z)) (k.u ++ z) z g.x k.x (g.again (k.u ++ z) (same z d)) (k.again z d);
+        wide = λ z d. ap (both h q p) (append_assoc g.u k.u z)
+            ∙ both_ok h q p (g.u ++ (k.u ++ z)) (k.u ++ z) z g.x k.x (g.wide (k.u ++ z) (same z d)) (k.wide z d);
       }
 
   both_first : (w : List Token) (y : B) (v : List Token) → N y v → N' y v → Bad L L' r q w → Bad (Both h L N) (Both h L' N') (both h r s) (both h q p) w
@@ -244,16 +268,20 @@ module _ {A B C : Type 0} (h : A → B → C) (L L' : A → Lang) (N N' : B → 
         (m.0, m.1, m.2, h m.3 y, m.4 ++ v, (m.3, y, refl, (b.p ++ (m.0 ∷ m.4), v, sym (append_assoc b.p (m.0 ∷ m.4) v), m.5, has2)));
   }
 
-  unfoldable pub both_second : (w : List Token) → ((x : A) (u : List Token) → L x u → L' x u) → (g : Good L r q w) → Bad N N' s p g.rest → Bad (Both h L N) (Both h L' N') (both h r s) (both h q p) w
+  unfoldable pub both_second : (w : List Token) → ((x : A) (u : List Token) → L x u → L' x u) → (g : Good L r q w)
+      → Bad N N' s p g.rest → Bad (Both h L N) (Both h L' N') (both h r s) (both h q p) w
   both_second w wider g b =
-      let same : (z : List Token) → SameHead b.rest z → SameHead g.rest (b.p ++ z) = λ z d. subst (λ y. SameHead y (b.p ++ z)) (sym b.cut) (SameHead-append b.p b.rest z d) in
+      let same : (z : List Token) → SameHead b.rest z → SameHead g.rest (b.p ++ z) =
+      λ z d. subst (λ y. SameHead y (b.p ++ z)) (sym b.cut) (SameHead-append b.p b.rest z d) in
       record {
         p = g.u ++ b.p;
         rest = b.rest;
         deep = b.deep;
         cut = g.cut ∙ ap (λ z. g.u ++ z) b.cut ∙ sym (append_assoc g.u b.p b.rest);
-        fails = λ z d. ap (both h r s) (append_assoc g.u b.p z) ∙ both_bad2 h r s (g.u ++ (b.p ++ z)) (b.p ++ z) g.x _ (g.again (b.p ++ z) (same z d)) (b.fails z d);
-        wide = λ n z d. ap (both h q p) (append_assoc g.u b.p z) ∙ both_bad2 h q p (g.u ++ (b.p ++ z)) (b.p ++ z) g.x _ (g.wide (b.p ++ z) (same z d)) (b.wide n z d);
+        fails = λ z d. ap (both h r s) (append_assoc g.u b.p z)
+            ∙ both_bad2 h r s (g.u ++ (b.p ++ z)) (b.p ++ z) g.x _ (g.again (b.p ++ z) (same z d)) (b.fails z d);
+        wide = λ n z d. ap (both h q p) (append_assoc g.u b.p z)
+            ∙ both_bad2 h q p (g.u ++ (b.p ++ z)) (b.p ++ z) g.x _ (g.wide (b.p ++ z) (same z d)) (b.wide n z d);
         x = h g.x b.x;
         v = b.v;
         begun = (g.x, b.x, refl, (g.u, b.p ++ b.v, append_assoc g.u b.p b.v, g.spells, b.begun));
@@ -261,7 +289,8 @@ module _ {A B C : Type 0} (h : A → B → C) (L L' : A → Lang) (N N' : B → 
             (m.0, m.1, m.2, h g.x m.3, m.4, (g.x, m.3, refl, (g.u, b.p ++ (m.0 ∷ m.4), append_assoc g.u b.p (m.0 ∷ m.4), wider g.x g.u g.spells, m.5)));
       }
 
-module _ {A B C : Type 0} (h : A → B → C) (L L' : A → Lang) (N N' : B → Lang) (f1 f2 l1 l2 : List ℕ) (e1 e2 : Bool) (r q : Reader A) (s p : Reader B) (E : Exact L L' f1 e1 l1 r q) (F : Exact N N' f2 e2 l2 s p) where
+module _ {A B C : Type 0} (h : A → B → C) (L L' : A → Lang) (N N' : B → Lang) (f1 f2 l1 l2 : List ℕ) (e1 e2 : Bool)
+    (r q : Reader A) (s p : Reader B) (E : Exact L L' f1 e1 l1 r q) (F : Exact N N' f2 e2 l2 s p) where
   both_runs : (w : List Token) → Good (Both h L N) (both h r s) (both h q p) w ⊎ Bad (Both h L N) (Both h L' N') (both h r s) (both h q p) w
   both_runs w = elim (E.runs w) [
     | inl g ↦ elim (F.runs g.rest) [ inl k ↦ inl (both_good h L L' N N' r q s p w g k) | inr b ↦ inr (both_second h L L' N N' r q s p w E.wider g b) ]
@@ -273,24 +302,31 @@ module _ {A B C : Type 0} (h : A → B → C) (L L' : A → Lang) (N N' : B → 
       let a = l.0 in let b = l.1 in let v = l.3.0 in let z = l.3.1 in
       let first : r (v ++ (z ++ rest)) ≡ Ok (a, z ++ rest) = E.again a v (z ++ rest) l.3.3 (stops_after f2 l1 l2 e2 z rest (F.begins b z l.3.4) d stop) in
       let second : s (z ++ rest) ≡ Ok (b, rest) = F.again b z rest l.3.4 (stops_last e2 l1 l2 rest stop) in
-      ap (λ y. both h r s (y ++ rest)) l.3.2 ∙ ap (both h r s) (append_assoc v z rest) ∙ both_ok h r s (v ++ (z ++ rest)) (z ++ rest) rest a b first second ∙ ap (λ x. Ok (x, rest)) (sym l.2)
+      ap (λ y. both h r s (y ++ rest)) l.3.2 ∙ ap (both h r s) (append_assoc v z rest)
+      ∙ both_ok h r s (v ++ (z ++ rest)) (z ++ rest) rest a b first second ∙ ap (λ x. Ok (x, rest)) (sym l.2)
 
   pub both_exact : apart f2 l1 ≡ true → Exact (Both h L N) (Both h L' N') (firsts e1 f1 f2) (cond e1 e2 false) (lasts e2 l1 l2) (both h r s) (both h q p)
   both_exact d = record {
     runs = both_runs;
     again = both_again d;
-    begins = λ c u l. subst (Begins (firsts e1 f1 f2) (cond e1 e2 false)) (sym l.3.2) (begins_both f1 f2 e1 e2 l.3.0 l.3.1 (E.begins l.0 l.3.0 l.3.3) (F.begins l.1 l.3.1 l.3.4));
+    begins = λ c u l. subst (Begins (firsts e1 f1 f2) (cond e1 e2 false)) (sym l.3.2)
+        (begins_both f1 f2 e1 e2 l.3.0 l.3.1 (E.begins l.0 l.3.0 l.3.3) (F.begins l.1 l.3.1 l.3.4));
     wider = λ c u l. (l.0, l.1, l.2, (l.3.0, l.3.1, l.3.2, E.wider l.0 l.3.0 l.3.3, F.wider l.1 l.3.1 l.3.4));
     x = h E.x F.x;
     u = E.u ++ F.u;
     has = (E.x, F.x, refl, (E.u, F.u, refl, E.has, F.has));
   }
 
-pub Exact-both : {A B C : Type 0} (h : A → B → C) {L L' : A → Lang} {N N' : B → Lang} {f1 f2 l1 l2 : List ℕ} {e1 e2 : Bool} {r q : Reader A} {s p : Reader B} → Exact L L' f1 e1 l1 r q → Exact N N' f2 e2 l2 s p → apart f2 l1 ≡ true → Exact (Both h L N) (Both h L' N') (firsts e1 f1 f2) (cond e1 e2 false) (lasts e2 l1 l2) (both h r s) (both h q p)
+pub Exact-both : {A B C : Type 0} (h : A → B → C) {L L' : A → Lang} {N N' : B → Lang} {f1 f2 l1 l2 : List ℕ}
+    {e1 e2 : Bool} {r q : Reader A} {s p : Reader B} → Exact L L' f1 e1 l1 r q → Exact N N' f2 e2 l2 s p
+    → apart f2 l1 ≡ true → Exact (Both h L N) (Both h L' N') (firsts e1 f1 f2) (cond e1 e2 false) (lasts e2 l1 l2)
+    (both h r s) (both h q p)
 Exact-both h {L} {L'} {N} {N'} {f1} {f2} {l1} {l2} {e1} {e2} {r} {q} {s} {p} E F d = both_exact h L L' N N' f1 f2 l1 l2 e1 e2 r q s p E F d
 
 -- the same language, said otherwise
-pub Exact-same : {X : Type 0} {L L' : X → Lang} (N N' : X → Lang) {f l : List ℕ} {e : Bool} {r q : Reader X} → ((x : X) (u : List Token) → L x u → N x u) → ((x : X) (u : List Token) → N x u → L x u) → ((x : X) (u : List Token) → L' x u → N' x u) → Exact L L' f e l r q → Exact N N' f e l r q
+pub Exact-same : {X : Type 0} {L L' : X → Lang} (N N' : X → Lang) {f l : List ℕ} {e : Bool} {r q : Reader X}
+    → ((x : X) (u : List Token) → L x u → N x u) → ((x : X) (u : List Token) → N x u → L x u)
+    → ((x : X) (u : List Token) → L' x u → N' x u) → Exact L L' f e l r q → Exact N N' f e l r q
 Exact-same {X} {L} {L'} N N' {f} {l} {e} {r} {q} to from to2 E = record {
   runs = λ w. elim (E.runs w) [ inl g ↦ inl (good w g) | inr b ↦ inr (bad w b) ];
   again = λ x u rest k h. E.again x u rest (from x u k) h;
@@ -334,10 +370,12 @@ line_begins : (f : List ℕ) (u s : List Token) → Begins f false u → line_at
 line_begins f [] s h = absurd (false≢true h)
 line_begins f (t ∷ u) s h = refl
 
-pub Exact-lined : {A X : Type 0} (f : ℕ → A → X) {L L' : A → Lang} {g l : List ℕ} {r q : Reader A} → Exact L L' g false l r q → Exact (Lined f L) (Lined f L') g false l (lined f r) (lined f q)
+pub Exact-lined : {A X : Type 0} (f : ℕ → A → X) {L L' : A → Lang} {g l : List ℕ} {r q : Reader A}
+    → Exact L L' g false l r q → Exact (Lined f L) (Lined f L') g false l (lined f r) (lined f q)
 Exact-lined {A} {X} f {L} {L'} {g} {l} {r} {q} E = record {
   runs = λ w. elim (E.runs w) [ inl k ↦ inl (good w k) | inr b ↦ inr (bad w b) ];
-  again = λ x u rest k h. lined_ok f r (u ++ rest) rest k.0 (E.again k.0 u rest k.2 h) ∙ ap (λ z. Ok (z, rest)) (ap (λ n. f n k.0) (line_begins g u rest (E.begins k.0 u k.2)) ∙ sym k.1);
+  again = λ x u rest k h. lined_ok f r (u ++ rest) rest k.0 (E.again k.0 u rest k.2 h)
+      ∙ ap (λ z. Ok (z, rest)) (ap (λ n. f n k.0) (line_begins g u rest (E.begins k.0 u k.2)) ∙ sym k.1);
   begins = λ x u k. E.begins k.0 u k.2;
   wider = λ x u k. (k.0, k.1, E.wider k.0 u k.2);
   x = f (line_at E.u) E.x;
@@ -347,7 +385,8 @@ Exact-lined {A} {X} f {L} {L'} {g} {l} {r} {q} E = record {
   where
     good : (w : List Token) → Good L r q w → Good (Lined f L) (lined f r) (lined f q) w
     good w k =
-        let keeps : (s : List Token) → f (line_at (k.u ++ s)) k.x ≡ f (line_at k.u) k.x = λ s. ap (λ n. f n k.x) (line_begins g k.u s (E.begins k.x k.u k.spells)) in
+        let keeps : (s : List Token) → f (line_at (k.u ++ s)) k.x ≡ f (line_at k.u) k.x =
+        λ s. ap (λ n. f n k.x) (line_begins g k.u s (E.begins k.x k.u k.spells)) in
         record {
           x = f (line_at k.u) k.x;
           u = k.u;

@@ -18,16 +18,19 @@ pub record First {X : Type 0} (L : X → Lang) (tokens : List Token) (i : ℕ) :
   pub past : Begun L (take (i + 1) tokens) → ⊥
 
 -- .. and no limits would allow it
-pub record IsUnexpected {X : Type 0} (L : ℕ → ℕ → X → Lang) (b s : ℕ) (tokens : List Token) (i : ℕ) : Type 0 where
+pub record IsUnexpected {X : Type 0} (L : ℕ → ℕ → X → Lang) (b s : ℕ) (tokens : List Token)
+    (i : ℕ) : Type 0 where
   pub first : First (L b s) tokens i
   pub never : Begun (Within L) (take (i + 1) tokens) → ⊥
 
 -- .. and it would be allowed without the limits
-pub record IsTooDeep {X : Type 0} (L : ℕ → ℕ → X → Lang) (b s : ℕ) (tokens : List Token) (i : ℕ) : Type 0 where
+pub record IsTooDeep {X : Type 0} (L : ℕ → ℕ → X → Lang) (b s : ℕ) (tokens : List Token)
+    (i : ℕ) : Type 0 where
   pub first : First (L b s) tokens i
   pub allowed : Begun (Within L) (take (i + 1) tokens)
 
 -- all of it begins some sentence, and it is none
-pub record IsEnded {X : Type 0} (L : ℕ → ℕ → X → Lang) (b s : ℕ) (tokens : List Token) : Type 0 where
+pub record IsEnded {X : Type 0} (L : ℕ → ℕ → X → Lang) (b s : ℕ) (tokens : List Token) : Type
+    0 where
   pub front : Begun (L b s) tokens
   pub none : (x : X) → L b s x tokens → ⊥

@@ -1,7 +1,9 @@
--- Languages of tokens: what may be said of a list of tokens, and how languages are put together.
--- A language speaks of whole lists, so a production of a grammar is one line in the grammar's own order.
--- A token counts by its class alone, so that which tokens may begin or follow a production is a list of numbers.
-use Rattle.std.specs.Prelude.{◌≡◌, ℕ, ◌+◌, ◌*◌, Bool, true, false, cond, ◌||◌, eqb, List, [], ◌∷◌, ◌++◌, Option, Some, None, codes}
+-- Languages of tokens: what may be said of a list of tokens, and how languages are put together. A
+-- language speaks of whole lists, so a production of a grammar is one line in the grammar's own
+-- order. A token counts by its class alone, so that which tokens may begin or follow a production
+-- is a list of numbers.
+use Rattle.std.specs.Prelude.{◌≡◌, ℕ, ◌+◌, ◌*◌, Bool, true, false, cond, ◌||◌, eqb, List, [], ◌∷◌}
+use Rattle.std.specs.Prelude.{◌++◌, Option, Some, None, codes}
 use Rattle.std.specs.Str.{bytes_eq}
 use Rattle.plex_lexer.specs.declared.token.Token.{Token}
 use Rattle.plex_lexer.specs.declared.token.TokenKind.{TokenKind}
@@ -15,7 +17,8 @@ use Rattle.plex_num.specs.declared.level.Level.TheVariants.{A, B, C, D}
 -- the class of a name: those of the four job buffers have one of their own
 abbrev pub name_class : List ℕ → ℕ
 name_class n =
-    cond (bytes_eq n (codes "A")) 1 (cond (bytes_eq n (codes "B")) 2 (cond (bytes_eq n (codes "C")) 3 (cond (bytes_eq n (codes "D")) 4 0)))
+    cond (bytes_eq n (codes "A")) 1 (cond (bytes_eq n (codes "B")) 2
+    (cond (bytes_eq n (codes "C")) 3 (cond (bytes_eq n (codes "D")) 4 0)))
 
 -- what a grammar sees of a token: a name, a number, or which keyword or mark it is
 abbrev pub kind_class : TokenKind → ℕ
@@ -27,7 +30,8 @@ kind_class (kinds.Mark m) = 2 * m + 7
 abbrev pub class : Token → ℕ
 class t = kind_class t.kind
 
--- the classes of the words of a grammar: any name, the name of a job buffer, a number, a keyword, a mark
+-- the classes of the words of a grammar: any name, the name of a job buffer, a number, a keyword, a
+-- mark
 abbrev pub NAME : List ℕ
 NAME = 0 ∷ 1 ∷ 2 ∷ 3 ∷ 4 ∷ []
 
@@ -94,11 +98,13 @@ flag L false = nothing
 
 -- a name, with its line where lines count
 abbrev pub named : Bool → Named → Lang
-named strict x u = (t : Token) × (u ≡ t ∷ []) × (t.kind ≡ kinds.Name x.name) × (strict ≡ true → x.line ≡ t.line)
+named strict x u = (t : Token) × (u ≡ t ∷ []) × (t.kind ≡ kinds.Name x.name)
+    × (strict ≡ true → x.line ≡ t.line)
 
 -- a number, with its line where lines count
 abbrev pub numbered : Bool → Numbered → Lang
-numbered strict x u = (t : Token) × (u ≡ t ∷ []) × (t.kind ≡ kinds.Number x.value) × (strict ≡ true → x.line ≡ t.line)
+numbered strict x u =
+    (t : Token) × (u ≡ t ∷ []) × (t.kind ≡ kinds.Number x.value) × (strict ≡ true → x.line ≡ t.line)
 
 -- the name of a job buffer
 abbrev pub level_name : Level → List ℕ
@@ -109,4 +115,5 @@ level_name D = codes "D"
 
 -- a job buffer by its name, with its line where lines count
 abbrev pub leveled : Bool → Leveled → Lang
-leveled strict x u = (t : Token) × (u ≡ t ∷ []) × (t.kind ≡ kinds.Name (level_name x.level)) × (strict ≡ true → x.line ≡ t.line)
+leveled strict x u = (t : Token) × (u ≡ t ∷ []) × (t.kind ≡ kinds.Name (level_name x.level))
+    × (strict ≡ true → x.line ≡ t.line)

@@ -1,5 +1,6 @@
 -- Reading from the front of a list of tokens.
-use Rattle.std.specs.Prelude.{ℕ, zero, suc, Bool, true, false, cond, nat_lt, List, [], ◌∷◌, ◌++◌, length, Result, Ok, Err, Option, Some, None, codes}
+use Rattle.std.specs.Prelude.{ℕ, zero, suc, Bool, true, false, cond, nat_lt, List, [], ◌∷◌, ◌++◌}
+use Rattle.std.specs.Prelude.{length, Result, Ok, Err, Option, Some, None, codes}
 use Rattle.plex_lexer.specs.declared.token.Token.{Token}
 pub use Rattle.plex_lexer.specs.Spots.{name_in, number_in}
 use Rattle.token_grammar.specs.declared.named.Named.{Named}
@@ -10,7 +11,8 @@ use Rattle.plex_num.specs.declared.level.Level.TheVariants.{A, B, C, D}
 use Rattle.std.specs.Str.{bytes_eq}
 use Rattle.token_grammar.specs.Language.{class, line_at, mem, NAME, NUMBER, LEVEL}
 
--- a reading that stopped: how many tokens were left, and whether the first of them would be allowed with deeper nesting
+-- a reading that stopped: how many tokens were left, and whether the first of them would be allowed
+-- with deeper nesting
 pub record Stuck : Type 0 where
   pub left : ℕ
   pub deep : Bool
@@ -34,16 +36,19 @@ fails deep w = Err (record { left = length w; deep = deep })
 -- one token of these classes
 unfoldable pub word_of : List ℕ → Reader Token
 word_of cs [] = Err (record { left = 0; deep = false })
-word_of cs (t ∷ ts) = cond (mem (class t) cs) (Ok (t, ts)) (Err (record { left = length (t ∷ ts); deep = false }))
+word_of cs (t ∷ ts) =
+    cond (mem (class t) cs) (Ok (t, ts)) (Err (record { left = length (t ∷ ts); deep = false }))
 
 -- goes on where something was read
 abbrev pub shorter : {X : Type 0} → List Token → List Token → Result X Stuck → Result X Stuck
-shorter rest w go = cond (nat_lt (length rest) (length w)) go (Err (record { left = length w; deep = false }))
+shorter rest w go = cond (nat_lt (length rest) (length w)) go
+    (Err (record { left = length w; deep = false }))
 
 -- as many as begin with a token of these classes, at most n
 unfoldable pub up_to : {X : Type 0} → ℕ → List ℕ → Reader X → Reader (List X)
 up_to zero cs r w = Ok ([], w)
-up_to (suc n) cs r w = cond (at cs w) (r w >>= λ x. shorter x.1 w (up_to n cs r x.1 >>= λ xs. Ok (x.0 ∷ xs.0, xs.1))) (Ok ([], w))
+up_to (suc n) cs r w = cond (at cs w) (r w >>= λ x. shorter x.1 w
+    (up_to n cs r x.1 >>= λ xs. Ok (x.0 ∷ xs.0, xs.1))) (Ok ([], w))
 
 unfoldable pub many : {X : Type 0} → List ℕ → Reader X → Reader (List X)
 many cs r w = up_to (length w) cs r w
@@ -101,7 +106,8 @@ all_read (Err e) = Err e
 all_read (Ok x) = only_all x.0 x.1
 
 -- what was read before, and then this
-abbrev pub with_front : {X : Type 0} → List X → Result (List X × List Token) Stuck → Result (List X × List Token) Stuck
+abbrev pub with_front : {X : Type 0} → List X → Result (List X × List Token) Stuck
+    → Result (List X × List Token) Stuck
 with_front front read = read >>= λ xs. Ok (front ++ xs.0, xs.1)
 
 -- a token as a name, as a number, and as the name of a job buffer, on this line
@@ -113,7 +119,8 @@ numbered_at line t = record { line = line; value = number_in t.kind }
 
 -- the job buffer of a name; D for any other name
 abbrev pub level_of : List ℕ → Level
-level_of n = cond (bytes_eq n (codes "A")) A (cond (bytes_eq n (codes "B")) B (cond (bytes_eq n (codes "C")) C D))
+level_of n = cond (bytes_eq n (codes "A")) A (cond (bytes_eq n (codes "B")) B
+    (cond (bytes_eq n (codes "C")) C D))
 
 abbrev pub leveled_at : ℕ → Token → Leveled
 leveled_at line t = record { line = line; level = level_of (name_in t.kind) }

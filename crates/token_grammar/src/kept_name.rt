@@ -79,8 +79,8 @@ enum Place {
     Away(Box<Name>),
 }
 
-/// A name as a tree keeps it, in 16 bytes: its bytes stand there where they are at most 14, else in a place of their own.
-/// Contracts see it as a list of bytes.
+/// A name as a tree keeps it, in 16 bytes: its bytes stand there where they are at most 14, else in
+/// a place of their own. Contracts see it as a list of bytes.
 pub struct KeptName {
     place: Place,
 }

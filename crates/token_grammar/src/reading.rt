@@ -3,7 +3,8 @@ ghost use Rattle.std.specs.Prelude.{◌≡◌, ◌∷◌, [], length};
 ghost use Rattle.std.specs.Str.{bytes_eq};
 ghost use Rattle.plex_lexer.specs.Cursors.{ahead, token};
 ghost use Rattle.token_grammar.specs.Language.{class, line_at, mem, name_class, LEVEL, NAME};
-ghost use Rattle.token_grammar.specs.Reading.{at, level_of, level_read, name_in, name_read, number_read, word_of};
+ghost use Rattle.token_grammar.specs.Reading.{at, level_of, level_read, name_in, name_read};
+ghost use Rattle.token_grammar.specs.Reading.{number_read, word_of};
 ghost use Rattle.token_grammar.specs.Gives.{GivesOrStops, Reads};
 
 use crate::fault::Fault;

@@ -25,7 +25,8 @@ use Rattle.run_answers.proofs.Telling.{answer_is}
 
 -- ## The listing
 
-pub listing_is : (x : Exchange) (code : Code) (text : List ℕ) (a : Answer) → code.ops ≡ whole_code x → code.entries ≡ entry_addresses x → a.status ≡ status.Done → a.text ≡ text → IsListing text code
+pub listing_is : (x : Exchange) (code : Code) (text : List ℕ) (a : Answer) → code.ops ≡ whole_code x
+    → code.entries ≡ entry_addresses x → a.status ≡ status.Done → a.text ≡ text → IsListing text code
     → a ≡ listing_answer x
 listing_is x code text a ops entries status_is text_is listed =
     let same : code ≡ code_of x = λ i. record { ops = ops i; entries = entries i } in
@@ -39,11 +40,15 @@ pub none_ended : (x : Exchange) (lines : List Coming) (b : State) (words : List 
 none_ended x lines b words begins = ap (λ (s : State). s.ended) begins
 
 -- the text of the jobs that are shown of a run from its opening
-pub shown_of : (x : Exchange) (first other : State) (limit at : ℕ) (shows : List Show) (text : List ℕ) → first ≡ other → limit ≡ at → text ≡ trace_text x (trace x limit first shows) → text ≡ trace_text x (trace x at other shows)
+pub shown_of : (x : Exchange) (first other : State) (limit at : ℕ) (shows : List Show) (text : List ℕ) → first ≡ other
+    → limit ≡ at → text ≡ trace_text x (trace x limit first shows) → text ≡ trace_text x (trace x at other shows)
 shown_of x first other limit at shows text begins is shown = shown ∙ (λ i. trace_text x (trace x (is i) (begins i) shows))
 
 -- that text, and then the report
-pub trace_is : (x : Exchange) (lines : List Line) (limit : ℕ) (shows : List Show) (end : Ended) (text : List ℕ) (a : Answer) → IsRunOf x lines limit end → text ≡ trace_text x (trace x limit (opening x (map coming_of lines)) shows) → a ≡ headed_by text (ending_answer x end) → a ≡ trace_answer x lines shows limit
+pub trace_is : (x : Exchange) (lines : List Line) (limit : ℕ) (shows : List Show) (end : Ended) (text : List ℕ)
+    (a : Answer) → IsRunOf x lines limit end → text
+    ≡ trace_text x (trace x limit (opening x (map coming_of lines)) shows) → a ≡ headed_by text (ending_answer x end)
+    → a ≡ trace_answer x lines shows limit
 trace_is x lines limit shows end text a over shown told =
     told ∙ ap (λ t. headed_by t (ending_answer x end)) shown
     ∙ ap (headed_by (trace_text x (trace x limit (opening x (map coming_of lines)) shows))) (answer_is x lines limit end (ending_answer x end) over refl)

@@ -1,11 +1,14 @@
 -- A run that goes on with another exchange.
-use Rattle.std.proofs.Common.{◌≡◌, ℕ, zero, suc, ◌<◌, ◌≤◌, Bool, true, false, Some, None, refl, sym, ap, ◌∙◌, subst, arith, if◌then◌else◌, not, ◌&&◌, List, ◌++◌, map, Option, Result, Ok, Err}
+use Rattle.std.proofs.Common.{◌≡◌, ℕ, zero, suc, ◌<◌, ◌≤◌, Bool, true, false, Some, None, refl, sym}
+use Rattle.std.proofs.Common.{ap, ◌∙◌, subst, arith, if◌then◌else◌, not, ◌&&◌, List, ◌++◌, map}
+use Rattle.std.proofs.Common.{Option, Result, Ok, Err}
 use Rattle.std.specs.Prelude.{nat_le, IfOk, nat_lt, unwrap_or}
 use Rattle.std.proofs.lemmas.Bool.Decides.{nat_tests}
 use Rattle.std.proofs.lemmas.Option.{none-some, same_Some}
 use Rattle.exchange_model.specs.declared.exchange.Exchange.{Exchange}
 use Rattle.source_meaning.specs.Arrivals.{is_quiet}
-use Rattle.source_meaning.specs.SingleRun.{Ending, Finished, Limited, Restarted, after, end_state, ending_at, jobs_at_end, opening}
+use Rattle.source_meaning.specs.SingleRun.{Ending, Finished, Limited, Restarted, after, end_state}
+use Rattle.source_meaning.specs.SingleRun.{ending_at, jobs_at_end, opening}
 use Rattle.source_meaning.specs.State.{State, has_stopped}
 use Rattle.exchange_run.proofs.Ending.{before_end, ends_at}
 use Rattle.exchange_run.proofs.Turning.{counted, goes_on}
@@ -28,8 +31,11 @@ use Rattle.block_change.specs.declared.misfit.Misfit.{Misfit}
 use Rattle.block_change.specs.Carried.{AreStanding, state_with}
 use Rattle.block_change.specs.Misfits.{misfit}
 use Rattle.answer_meaning.specs.Outcome.{headed_by}
-use Rattle.answer_meaning.specs.RunAnswer.{end_of, ended_answer, ending_answer, ending_of, run_answer}
-use Rattle.answer_meaning.specs.ChangeAnswer.{AnswersChange, ChangesOrNot, IsChanged, changed_answer, ends_before, further_answer, is_changed, misfit_answer}
+use Rattle.answer_meaning.specs.RunAnswer.{end_of, ended_answer, ending_answer, ending_of}
+use Rattle.answer_meaning.specs.RunAnswer.{run_answer}
+use Rattle.answer_meaning.specs.ChangeAnswer.{AnswersChange, ChangesOrNot, IsChanged}
+use Rattle.answer_meaning.specs.ChangeAnswer.{changed_answer, ends_before, further_answer}
+use Rattle.answer_meaning.specs.ChangeAnswer.{is_changed, misfit_answer}
 use Rattle.answer_meaning.specs.Lines.{AreRead}
 use Rattle.run_answers.specs.Runs.{CarriesOn, IsRunOf}
 use Rattle.answer_meaning.specs.Text.{change_text}
@@ -59,7 +65,10 @@ at_limit false e own is = none-some e is
 own_ending : (low high : ℕ) (s : State) (e : Ending) → IsOwn e → ending_at low s ≡ Some e → ending_at high s ≡ Some e
 own_ending low high s e own is = by (has_stopped s) (is_quiet s.waiting) is
   where
-    by : (b c : Bool) → (if b then Some Restarted else (if c then Some Finished else (if nat_le low s.ended then Some Limited else None))) ≡ Some e → (if b then Some Restarted else (if c then Some Finished else (if nat_le high s.ended then Some Limited else None))) ≡ Some e
+    by : (b c : Bool) → (if b then Some Restarted
+        else (if c then Some Finished else (if nat_le low s.ended then Some Limited else None))) ≡ Some e
+        → (if b then Some Restarted else (if c then Some Finished
+        else (if nat_le high s.ended then Some Limited else None))) ≡ Some e
     by true c is = is
     by false true is = is
     by false false is = absurd (at_limit (nat_le low s.ended) e own is)
@@ -68,7 +77,9 @@ own_ending low high s e own is = by (has_stopped s) (is_quiet s.waiting) is
 limit_reached : (limit : ℕ) (s : State) → ending_at limit s ≡ Some Limited → limit ≤ s.ended
 limit_reached limit s is = by (has_stopped s) (is_quiet s.waiting) (nat_le limit s.ended) refl is
   where
-    by : (b c d : Bool) → nat_le limit s.ended ≡ d → (if b then Some Restarted else (if c then Some Finished else (if d then Some Limited else None))) ≡ Some Limited → limit ≤ s.ended
+    by : (b c d : Bool) → nat_le limit s.ended ≡ d
+        → (if b then Some Restarted else (if c then Some Finished else (if d then Some Limited else None)))
+        ≡ Some Limited → limit ≤ s.ended
     by true c d t is = cc
     by false true d t is = cc
     by false false true t is = grind (arith, nat_tests, t)
@@ -92,7 +103,9 @@ IsNoRestart Limited = Unit {0}
 pub goes_so : (limit : ℕ) (s : State) (e : Ending) → IsNoRestart e → ending_at limit s ≡ Some e → has_stopped s ≡ false
 goes_so limit s e other is = by (has_stopped s) is
   where
-    by : (b : Bool) → (if b then Some Restarted else (if is_quiet s.waiting then Some Finished else (if nat_le limit s.ended then Some Limited else None))) ≡ Some e → b ≡ false
+    by : (b : Bool) → (if b then Some Restarted
+        else (if is_quiet s.waiting then Some Finished else (if nat_le limit s.ended then Some Limited else None)))
+        ≡ Some e → b ≡ false
     by true is = absurd (subst IsNoRestart (sym (same_Some Restarted e is)) other)
     by false is = refl
 
@@ -134,19 +147,25 @@ at_few at jobs most le few = omega (arith, le, few)
 
 -- whether it fits
 
-pub answers_misfit : (x y : Exchange) (lines : List Line) (jobs at : ℕ) (found : Option Misfit) (m : Misfit) (r : Result Answer Memory) → found ≡ misfit x y → found ≡ Some m → IfOk r (λ a. a ≡ misfit_answer x m) → IfOk r (AnswersChange x y lines jobs at (misfit x y))
+pub answers_misfit : (x y : Exchange) (lines : List Line) (jobs at : ℕ) (found : Option Misfit) (m : Misfit)
+    (r : Result Answer Memory) → found ≡ misfit x y → found ≡ Some m → IfOk r (λ a. a ≡ misfit_answer x m)
+    → IfOk r (AnswersChange x y lines jobs at (misfit x y))
 answers_misfit x y lines jobs at found m r same is told = subst (λ o. IfOk r (AnswersChange x y lines jobs at o)) (sym is ∙ same) told
 
-pub answers_fit : (x y : Exchange) (lines : List Line) (jobs at : ℕ) (found : Option Misfit) (r : Result Answer Memory) → found ≡ misfit x y → found ≡ None → IfOk r (ChangesOrNot x y lines jobs at (is_changed x lines jobs at)) → IfOk r (AnswersChange x y lines jobs at (misfit x y))
+pub answers_fit : (x y : Exchange) (lines : List Line) (jobs at : ℕ) (found : Option Misfit) (r : Result Answer Memory)
+    → found ≡ misfit x y → found ≡ None → IfOk r (ChangesOrNot x y lines jobs at (is_changed x lines jobs at))
+    → IfOk r (AnswersChange x y lines jobs at (misfit x y))
 answers_fit x y lines jobs at found r same is told = subst (λ o. IfOk r (AnswersChange x y lines jobs at o)) (sym is ∙ same) told
 
 -- no change
 
-tested : (x y : Exchange) (lines : List Line) (jobs at : ℕ) (b : Bool) (a : Answer) → is_changed x lines jobs at ≡ b → ChangesOrNot x y lines jobs at b a → ChangesOrNot x y lines jobs at (is_changed x lines jobs at) a
+tested : (x y : Exchange) (lines : List Line) (jobs at : ℕ) (b : Bool) (a : Answer) → is_changed x lines jobs at ≡ b
+    → ChangesOrNot x y lines jobs at b a → ChangesOrNot x y lines jobs at (is_changed x lines jobs at) a
 tested x y lines jobs at b a is told = subst (λ c. ChangesOrNot x y lines jobs at c a) (sym is) told
 
 -- the run may not have so many jobs
-pub never_reached : (x y : Exchange) (lines : List Line) (jobs at : ℕ) (r : Result Answer Memory) → jobs < at → IfOk r (λ a. a ≡ run_answer x lines jobs) → IfOk r (ChangesOrNot x y lines jobs at (is_changed x lines jobs at))
+pub never_reached : (x y : Exchange) (lines : List Line) (jobs at : ℕ) (r : Result Answer Memory) → jobs < at
+    → IfOk r (λ a. a ≡ run_answer x lines jobs) → IfOk r (ChangesOrNot x y lines jobs at (is_changed x lines jobs at))
 never_reached x y lines jobs at (Err m) less told = tt
 never_reached x y lines jobs at (Ok a) less told =
     let over : nat_le at jobs ≡ false = grind (arith, nat_tests, less) in
@@ -214,7 +233,8 @@ module _ (x y : Exchange) (lines : List Line) (jobs at : ℕ) (le : at ≤ jobs)
         nobody = over.nobody;
       }) told
 
-  pub not_changed : (r : Result Answer Memory) → ends_before e end.books.state.ended at ≡ true → IfOk r (λ a. a ≡ ending_answer x end) → IfOk r (ChangesOrNot x y lines jobs at (is_changed x lines jobs at))
+  pub not_changed : (r : Result Answer Memory) → ends_before e end.books.state.ended at ≡ true
+      → IfOk r (λ a. a ≡ ending_answer x end) → IfOk r (ChangesOrNot x y lines jobs at (is_changed x lines jobs at))
   not_changed (Err m) before told = tt
   not_changed (Ok a) before told = tested x y lines jobs at false a (tests_are before) (run_there a (own_so before) told)
 
@@ -236,13 +256,16 @@ module _ (x y : Exchange) (lines : List Line) (jobs at : ℕ) (le : at ≤ jobs)
       valid = subst (IsValid x) (sym parts_state) (after_valid x kept start (jobs_at_end x at start) (opening_valid x kept (map coming_of lines) read.fit));
     }
 
-    pub is_changed_so : (r : Result Answer Memory) → ends_before e end.books.state.ended at ≡ false → IfOk r (IsChanged x y (state_with p end.words) jobs at) → IfOk r (ChangesOrNot x y lines jobs at (is_changed x lines jobs at))
+    pub is_changed_so : (r : Result Answer Memory) → ends_before e end.books.state.ended at ≡ false
+        → IfOk r (IsChanged x y (state_with p end.words) jobs at)
+        → IfOk r (ChangesOrNot x y lines jobs at (is_changed x lines jobs at))
     is_changed_so (Err m) on told = tt
     is_changed_so (Ok a) on told = tested x y lines jobs at true a (tests_are on) (subst (λ t. IsChanged x y t jobs at a) parts_state told)
 
 -- the answer of a change
 pub changes : (x y : Exchange) (before : State) (jobs at : ℕ) (run : Standing) (end : Ended) (front : List ℕ) (a : Answer) → CarriesOn x y before jobs run
-    → IsEndOf y (state_of run) run.books.limit end → front ≡ text_of (event_lines x before.events) ++ change_text at → a ≡ headed_by front (ending_answer y end) → IsChanged x y before jobs at a
+    → IsEndOf y (state_of run) run.books.limit end → front ≡ text_of (event_lines x before.events) ++ change_text at
+    → a ≡ headed_by front (ending_answer y end) → IsChanged x y before jobs at a
 changes x y before jobs at run end front a on over begins told = record { carried = t; is = on.carried; answers = answers }
   where
     t : State

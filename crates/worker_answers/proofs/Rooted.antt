@@ -1,4 +1,5 @@
--- A store that holds the words of a run and has lent nothing: jobs may start on it, and what they come to is that of the single run.
+-- A store that holds the words of a run and has lent nothing: jobs may start on it, and what they
+-- come to is that of the single run.
 use Rattle.std.proofs.Common.{◌≡◌, ℕ, ◌<◌, ◌≤◌, Bool, List, sym, ap, ◌∙◌, subst}
 use Rattle.plex_limits.specs.declared.limits.TheConstants.{MOST_JOBS}
 use Rattle.machine_code.specs.Coded.{Code}
@@ -32,10 +33,13 @@ values_are root store words is = ap (λ (r : RootView). r.1.values) is
 pub root_unlent : (root : RootView) (store : StoreId) (words : List ℕ) → root ≡ (store, unlent words) → root ≡ (store, unlent root.1.values)
 root_unlent root store words is = is ∙ ap (λ v. (store, unlent v)) (sym (values_are root store words is))
 
-pub root_valid : (x : Exchange) (s : State) (root : RootView) (store : StoreId) (words : List ℕ) → root ≡ (store, unlent words) → IsValid x (with_words s words) → IsValid x (with_words s root.1.values)
+pub root_valid : (x : Exchange) (s : State) (root : RootView) (store : StoreId) (words : List ℕ)
+    → root ≡ (store, unlent words) → IsValid x (with_words s words) → IsValid x (with_words s root.1.values)
 root_valid x s root store words is valid = subst (λ v. IsValid x (with_words s v)) (sym (values_are root store words is)) valid
 
-pub root_starts : (x : Exchange) (b : Account) (root : RootView) (store : StoreId) (words : List ℕ) → root ≡ (store, unlent words) → MayGoOn x (record { books = b; words = words }) → b.limit ≤ MOST_JOBS → (may_rest : Bool) → MayStart x store (record { books = b; root = root; may_rest = may_rest })
+pub root_starts : (x : Exchange) (b : Account) (root : RootView) (store : StoreId) (words : List ℕ)
+    → root ≡ (store, unlent words) → MayGoOn x (record { books = b; words = words }) → b.limit ≤ MOST_JOBS
+    → (may_rest : Bool) → MayStart x store (record { books = b; root = root; may_rest = may_rest })
 root_starts x b root store words is may limit may_rest = record {
   nobody = may.nobody;
   limit = limit;
@@ -44,13 +48,17 @@ root_starts x b root store words is may limit may_rest = record {
 }
 
 -- what the dispatcher comes to that goes on with its values
-pub root_comes : (x : Exchange) (code : Code) (k : KeptSummaries) (workers : ℕ) (b : Account) (root : RootView) (store : StoreId) (words : List ℕ) (come : Dispatched) → root ≡ (store, unlent words) → IsRunTo x code k workers (with_words b.state root.1.values) b.limit come
+pub root_comes : (x : Exchange) (code : Code) (k : KeptSummaries) (workers : ℕ) (b : Account) (root : RootView)
+    (store : StoreId) (words : List ℕ) (come : Dispatched) → root ≡ (store, unlent words)
+    → IsRunTo x code k workers (with_words b.state root.1.values) b.limit come
     → IsRunTo x code k workers (with_words b.state words) b.limit come
-root_comes x code k workers b root store words come is to = subst (λ v. IsRunTo x code k workers (with_words b.state v) b.limit come) (values_are root store words is) to
+root_comes x code k workers b root store words come is to = subst
+    (λ v. IsRunTo x code k workers (with_words b.state v) b.limit come) (values_are root store words is) to
 
 pub ruleset root_rules = (root_starts, root_comes)
 
-module _ (x : Exchange) (code : Code) (k : KeptSummaries) (workers : ℕ) (first : State) (limit : ℕ) (come : Dispatched) (to : IsRunTo x code k workers first limit come) where
+module _ (x : Exchange) (code : Code) (k : KeptSummaries) (workers : ℕ) (first : State) (limit : ℕ) (come : Dispatched)
+    (to : IsRunTo x code k workers first limit come) where
   -- the end to which the dispatcher comes is that of the single run
   pub end_comes : (end : End) → come ≡ Over end → IsEndOf x first limit (record { books = end.books; words = end.words; ending = end.ending })
   end_comes end is =
@@ -65,15 +73,20 @@ module _ (x : Exchange) (code : Code) (k : KeptSummaries) (workers : ℕ) (first
 
 -- the dispatcher goes on with a run on its way
 
-pub way_ended : (x : Exchange) (code : Code) (k : KeptSummaries) (workers : ℕ) (first : State) (limit : ℕ) (run : Standing) (come : Dispatched) → IsOnTheWay x first limit run → IsRunTo x code k workers (state_of run) run.books.limit come → (end : End) → come ≡ Over end
+pub way_ended : (x : Exchange) (code : Code) (k : KeptSummaries) (workers : ℕ) (first : State) (limit : ℕ)
+    (run : Standing) (come : Dispatched) → IsOnTheWay x first limit run
+    → IsRunTo x code k workers (state_of run) run.books.limit come → (end : End) → come ≡ Over end
     → (result : Ended) → result ≡ record { books = end.books; words = end.words; ending = end.ending } → IsEndOf x first limit result
 way_ended x code k workers first limit run come way to end is result result_is =
     subst (IsEndOf x first limit) (sym result_is) (way_over way (end_comes x code k workers (state_of run) run.books.limit come to end is))
 
-pub way_rested : (x : Exchange) (code : Code) (k : KeptSummaries) (workers : ℕ) (first : State) (limit : ℕ) (run : Standing) (come : Dispatched) → IsOnTheWay x first limit run → IsRunTo x code k workers (state_of run) run.books.limit come → (rested : Rested) → come ≡ Rests rested
+pub way_rested : (x : Exchange) (code : Code) (k : KeptSummaries) (workers : ℕ) (first : State) (limit : ℕ)
+    (run : Standing) (come : Dispatched) → IsOnTheWay x first limit run
+    → IsRunTo x code k workers (state_of run) run.books.limit come → (rested : Rested) → come ≡ Rests rested
     → IsOnTheWay x first limit rested.there
 way_rested x code k workers first limit run come way to rested is = way_more way (rest_comes x code k workers (state_of run) run.books.limit come to rested is)
 
 -- what a run is of, by its parts
-pub is_context : (c : RunContext) → IsLayout c.exchange.now.blocks c.layout.now → Faithful c.exchange.now c.code.now → IsChecked c.exchange.now c.checked.now → 0 < c.workers → IsContext c
+pub is_context : (c : RunContext) → IsLayout c.exchange.now.blocks c.layout.now → Faithful c.exchange.now c.code.now
+    → IsChecked c.exchange.now c.checked.now → 0 < c.workers → IsContext c
 is_context c laid faithful checked some = record { laid = laid; faithful = faithful; checked = checked; some = some }

@@ -26,7 +26,8 @@ enum Whereabouts<B: Naming> {
     Over(Ended<B>),
 }
 
-/// A job that waits, runs or has run, wherever it is. Contracts see the loan that it is of. It cannot be dropped: it must be finished.
+/// A job that waits, runs or has run, wherever it is. Contracts see the loan that it is of. It
+/// cannot be dropped: it must be finished.
 pub struct Flight<B: Naming> {
     ticket: Ticket,
     at: Whereabouts<B>,
@@ -43,8 +44,9 @@ impl<B: Naming> Model for Flight<B> {
     ghost invariant = { λ f. f.ticket.0 ≡ B.book };
 }
 
-/// Makes a job of a seat and a run that are ready, and takes it in hand. Its ticket's number is how many tickets the pen wrote before;
-/// there must be fewer than 2^64 - 1. `job` is the number by which the gate knows the job.
+/// Makes a job of a seat and a run that are ready, and takes it in hand. Its ticket's number is how
+/// many tickets the pen wrote before; there must be fewer than 2^64 - 1. `job` is the number by
+/// which the gate knows the job.
 pub fn launch<B: Naming>(
     book: &TicketBook,
     pen: &mut Pen,
@@ -117,8 +119,9 @@ impl<B: Naming> Flight<B> {
         Flight { ticket, at }
     }
 
-    /// The end of the job: it is run here where it is in hand, and waited for where it was brought to a shop, which must be this one.
-    /// The seat comes back with the touches of its loan's job, and the run at its end.
+    /// The end of the job: it is run here where it is in hand, and waited for where it was brought
+    /// to a shop, which must be this one. The seat comes back with the touches of its loan's job,
+    /// and the run at its end.
     pub fn finish<R: Wait, G: Gate>(
         self,
         rt: &R,

@@ -3,8 +3,9 @@ use std::sync::Wait;
 use std::sync::atomic::{AtomicU64, Ordering};
 use std::time::Duration;
 
-/// A count that has two lines of memory for itself, so that who changes it keeps nobody from another one. Threads may sleep on it. It
-/// counts modulo 2^64, and has no clause: what is promised of jobs knows nothing of how threads find them.
+/// A count that has two lines of memory for itself, so that who changes it keeps nobody from
+/// another one. Threads may sleep on it. It counts modulo 2^64, and has no clause: what is promised
+/// of jobs knows nothing of how threads find them.
 #[derive(Drop)]
 pub(crate) struct Line {
     word: AtomicU64,
@@ -48,7 +49,8 @@ impl Line {
             .is_ok()
     }
 
-    /// Sleeps, where the count still is this one, until somebody wakes this thread, or for so many microseconds.
+    /// Sleeps, where the count still is this one, until somebody wakes this thread, or for so many
+    /// microseconds.
     pub fn sleep<R: Wait>(&self, rt: &R, count: u64, micros: u64) {
         let low_half = (count % (1 << 32)) as u32;
         self.word

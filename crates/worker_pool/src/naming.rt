@@ -1,8 +1,8 @@
 // What all jobs of one dispatch have in common.
 use std::marker::Brand;
 
-/// Names the exchange, its code, the shared store and the book of the tickets of one dispatch. A call at `Brand` picks them; then all
-/// that its threads hand to one another speaks of these alone.
+/// Names the exchange, its code, the shared store and the book of the tickets of one dispatch. A
+/// call at `Brand` picks them; then all that its threads hand to one another speaks of these alone.
 pub trait Naming {
     ghost use Rattle.exchange_model.specs.declared.exchange.Exchange.{Exchange};
     ghost use Rattle.machine_code.specs.Coded.{Code};

@@ -1,5 +1,5 @@
-// What the dispatcher and its workers share: a row of places for jobs, which are filled and emptied in turn, and a few counts by which
-// threads find jobs, sleep and are woken.
+// What the dispatcher and its workers share: a row of places for jobs, which are filled and emptied
+// in turn, and a few counts by which threads find jobs, sleep and are woken.
 ghost use Rattle.std.specs.Prelude.{◌≡◌, ◌<◌, IfOk, vec_len};
 ghost use Rattle.worker_pool.specs.Ways.{AreMeans};
 
@@ -48,8 +48,9 @@ const NAP: u64 = 20_000;
 /// How long it sleeps at most: a worker that finds nothing sleeps twice as long each time.
 const LONGEST_NAP: u64 = 2_000_000;
 
-/// The meeting place of the dispatcher, which brings jobs and fetches their ends, and of its workers. Jobs are taken in the order in
-/// which they were brought. Contracts see how many jobs it has room for.
+/// The meeting place of the dispatcher, which brings jobs and fetches their ends, and of its
+/// workers. Jobs are taken in the order in which they were brought. Contracts see how many jobs it
+/// has room for.
 #[derive(Drop)]
 pub struct Shop<B: Naming> {
     /// How many jobs were brought. The dispatcher alone changes it.
@@ -64,7 +65,8 @@ pub struct Shop<B: Naming> {
     bell: Line,
     /// 1 while a worker that was woken has not yet come to look for a job.
     called: Line,
-    /// One more than the number of the job for whose end the dispatcher sleeps, on this very word; 0 where it does not.
+    /// One more than the number of the job for whose end the dispatcher sleeps, on this very word;
+    /// 0 where it does not.
     waits_for: Line,
     /// So many jobs have to wait before a worker is woken for them.
     batch: Line,
@@ -72,7 +74,8 @@ pub struct Shop<B: Naming> {
     spare: Line,
     /// 1 once no more jobs come.
     closed: Line,
-    /// How many workers were started; `NO_MORE` once one could not be. The dispatcher alone uses it.
+    /// How many workers were started; `NO_MORE` once one could not be. The dispatcher alone uses
+    /// it.
     started: Line,
     /// The job of number k is at place k modulo their number.
     places: Vec<Place<B>>,
@@ -92,7 +95,8 @@ impl<B: Naming> Model for Shop<B> {
 }
 
 impl<B: Naming> Shop<B> {
-    /// A shop with room for so many jobs, and as yet no worker. Memory is the only reason for an error.
+    /// A shop with room for so many jobs, and as yet no worker. Memory is the only reason for an
+    /// error.
     pub fn new(alloc: Global, room: u32) -> Result<Shop<B>, Memory>
         requires { 0 < room }
         ensures { IfOk result (λ shop. shop ≡ room) }
@@ -116,8 +120,9 @@ impl<B: Naming> Shop<B> {
         })
     }
 
-    /// Brings a job, and wakes a worker for it where that is worth it. Its number here. No more jobs may be there at once than the shop
-    /// has room for: else one takes the place of another, whose flight then never ends.
+    /// Brings a job, and wakes a worker for it where that is worth it. Its number here. No more
+    /// jobs may be there at once than the shop has room for: else one takes the place of another,
+    /// whose flight then never ends.
     pub fn bring<R: Wait>(&self, rt: &R, task: Task<B>) -> u64 {
         let number = self.brought.get();
         *self.place(number).slot.lock(rt) = Slot::Waits(task);
@@ -169,8 +174,8 @@ impl<B: Naming> Shop<B> {
         }
     }
 
-    /// What closes the shop when it goes: no more jobs come then, and the workers end. It must go before the end of the workers' scope,
-    /// which else waits for ever.
+    /// What closes the shop when it goes: no more jobs come then, and the workers end. It must go
+    /// before the end of the workers' scope, which else waits for ever.
     pub fn closing(&self) -> Closing<'_, B> {
         Closing { shop: self }
     }
@@ -204,8 +209,8 @@ impl<B: Naming> Shop<B> {
         false
     }
 
-    /// The end of the job of this number. Until it has ended other jobs that wait are run here, the oldest first; where none waits the
-    /// caller does.
+    /// The end of the job of this number. Until it has ended other jobs that wait are run here, the
+    /// oldest first; where none waits the caller does.
     pub(crate) fn end_of<R: Wait, G: Gate>(
         &self,
         rt: &R,
@@ -243,7 +248,8 @@ impl<B: Naming> Shop<B> {
         None
     }
 
-    /// Runs the oldest job that waits, if there is one, in the thread that calls. Whether there was.
+    /// Runs the oldest job that waits, if there is one, in the thread that calls. Whether there
+    /// was.
     pub fn help<R: Wait, G: Gate>(&self, rt: &R, means: &Means<'_>, gate: &G) -> bool
         requires means { AreMeans B.exchange B.code B.store means.now }
     {
@@ -286,8 +292,9 @@ impl<B: Naming> Shop<B> {
         self.waits_for.set(0);
     }
 
-    /// A worker that looks for jobs runs those that wait, the oldest first, until none has come for some time. Whether it ran any. While
-    /// it runs them it does not count as one that looks, and before each another worker is woken where enough are left.
+    /// A worker that looks for jobs runs those that wait, the oldest first, until none has come for
+    /// some time. Whether it ran any. While it runs them it does not count as one that looks, and
+    /// before each another worker is woken where enough are left.
     pub(crate) fn serve<R: Wait, G: Gate>(&self, rt: &R, means: &Means<'_>, gate: &G) -> bool
         requires means { AreMeans B.exchange B.code B.store means.now }
     {
@@ -318,7 +325,8 @@ impl<B: Naming> Shop<B> {
         unreachable!()
     }
 
-    /// A worker that looks for jobs sleeps until one is brought, or for so many microseconds, and looks again.
+    /// A worker that looks for jobs sleeps until one is brought, or for so many microseconds, and
+    /// looks again.
     pub(crate) fn nap<R: Wait>(&self, rt: &R, micros: u64) {
         let bell = self.bell.get();
         self.asleep.add_one();

@@ -12,7 +12,8 @@ use shared_store::JobSeat;
 use std::marker::{Model, PhantomData};
 use ticket_book::{Ticket, TicketBook};
 
-/// A job that waits for a thread. Contracts see what its ticket claims: its number, and the loan of its seat.
+/// A job that waits for a thread. Contracts see what its ticket claims: its number, and the loan of
+/// its seat.
 #[derive(Drop)]
 pub struct Task<B: Naming> {
     pub(crate) ticket: Ticket,
@@ -34,7 +35,8 @@ impl<B: Naming> Model for Task<B> {
     ghost invariant = { λ t. IsTask B.exchange B.code B.store B.book t.ticket t.seat t.run.value };
 }
 
-/// A job that has run. Contracts see what its ticket claims: its number, and the loan whose job ran.
+/// A job that has run. Contracts see what its ticket claims: its number, and the loan whose job
+/// ran.
 #[derive(Drop)]
 pub struct Ended<B: Naming> {
     ticket: Ticket,
@@ -55,8 +57,8 @@ impl<B: Naming> Model for Ended<B> {
 }
 
 impl<B: Naming> Task<B> {
-    /// Runs the job in the thread that calls. The gate is told before and after it, by the job's number there; after it also how many
-    /// instructions the run made.
+    /// Runs the job in the thread that calls. The gate is told before and after it, by the job's
+    /// number there; after it also how many instructions the run made.
     pub fn run<G: Gate>(self, means: &Means<'_>, gate: &G) -> Ended<B>
         requires means { AreMeans B.exchange B.code B.store means.now }
         ensures { result ≡ self }
@@ -93,7 +95,8 @@ impl<B: Naming> Ended<B> {
         self.ticket.number()
     }
 
-    /// The seat and the run of the job of a ticket's loan. The ticket must have the number of the job's own.
+    /// The seat and the run of the job of a ticket's loan. The ticket must have the number of the
+    /// job's own.
     pub fn settle(self, book: &TicketBook, mine: Ticket) -> (JobSeat, Box<JobRun>)
         requires book { (book.now ≡ B.book) × (mine.0 ≡ B.book) }
         requires number { mine.1.number ≡ self.number }

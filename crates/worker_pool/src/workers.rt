@@ -9,8 +9,9 @@ use plex_io::Gate;
 use std::sync::Wait;
 use std::thread::{Scope, Threads};
 
-/// Starts workers in a scope until there are so many. They run the jobs that are brought to the shop, and end once it is closed. Where
-/// a thread cannot be made there are fewer, and none is tried again: a job that no worker has is run by who finishes its flight.
+/// Starts workers in a scope until there are so many. They run the jobs that are brought to the
+/// shop, and end once it is closed. Where a thread cannot be made there are fewer, and none is
+/// tried again: a job that no worker has is run by who finishes its flight.
 pub fn start_workers<'s, 'e: 's, B: Naming + Send + Sync, R: Threads + Wait + Sync, G: Gate + Sync>(
     rt: &'e R,
     scope: &'s Scope<'s, &'e ()>,

@@ -1,9 +1,13 @@
 // What an instruction may do to the job's own state.
-ghost use Rattle.std.specs.Prelude.{◌≡◌, ℕ, ◌+◌, ◌-◌, ◌≤◌, ◌<◌, ◌^◌, ◌↔◌, ◌++◌, ◌∷◌, [], ◌&&◌, true, not, nat_eq, length, take, replicate, slice_index, slice_set, nat_lt, is_some, Some, None, unwrap_or, position, IsNone, IsTrue};
+ghost use Rattle.std.specs.Prelude.{◌≡◌, ℕ, ◌+◌, ◌-◌, ◌≤◌, ◌<◌, ◌^◌, ◌↔◌, ◌++◌, ◌∷◌, [], ◌&&◌};
+ghost use Rattle.std.specs.Prelude.{true, not, nat_eq, length, take, replicate, slice_index};
+ghost use Rattle.std.specs.Prelude.{slice_set, nat_lt, is_some, Some, None, unwrap_or, position};
+ghost use Rattle.std.specs.Prelude.{IsNone, IsTrue};
 ghost use Rattle.job_types.specs.Own.{budget, eight};
 ghost use Rattle.job_types.specs.Chain.{holds, without};
 ghost use Rattle.job_types.specs.Truth.{at_zero};
-ghost use Rattle.machine_meaning.specs.Machine.{reg, goes, next, fails, checks, counts, divides, joins, sends, calls, returns, ends};
+ghost use Rattle.machine_meaning.specs.Machine.{reg, goes, next, fails, checks, counts, divides};
+ghost use Rattle.machine_meaning.specs.Machine.{joins, sends, calls, returns, ends};
 ghost use Rattle.job_run.specs.Standing.{beyond, leads, standing, stood};
 ghost use Rattle.job_run.specs.declared.run.stand.Way.TheVariants.{On, To, Over};
 ghost use Rattle.job_types.specs.declared.chain.Held.{Held};
@@ -39,13 +43,15 @@ impl JobRun {
         requires local { i < 50 }
         requires register { r < 16 }
         ensures next { result ≡ On }
-        ensures run { self.new ≡ record self.old { locals = slice_set self.old.locals i (reg self.old r) } }
+        ensures run { self.new ≡ record self.old
+            { locals = slice_set self.old.locals i (reg self.old r) } }
     {
         self.locals[i as usize] = self.registers[r as usize];
         Way::On
     }
 
-    /// The job ends by a fault. It stands alone, so that the loop of a run has the processor's registers for what goes on.
+    /// The job ends by a fault. It stands alone, so that the loop of a run has the processor's
+    /// registers for what goes on.
     #[cold]
     #[inline(never)]
     pub fn fail(&mut self, fault: Fault) -> Way
@@ -63,8 +69,10 @@ impl JobRun {
     /// Goes on where the test holds, and else ends by the fault.
     pub fn check(&mut self, holds: bool, fault: Fault, from: Spot) -> Way
         requires runs { self.old.over ≡ None }
-        ensures run { stood (beyond from) (leads (beyond from).at self.new.pc result) self.new ≡ checks holds fault (standing (beyond from) self.old) }
-        ensures over { (at address : ℕ) → is_some (leads at address result) ≡ not (is_some self.new.over) }
+        ensures run { stood (beyond from) (leads (beyond from).at self.new.pc result) self.new
+            ≡ checks holds fault (standing (beyond from) self.old) }
+        ensures over { (at address : ℕ) → is_some (leads at address result)
+            ≡ not (is_some self.new.over) }
     {
         if holds { Way::On } else { self.fail(fault) }
     }
@@ -73,8 +81,10 @@ impl JobRun {
     #[tactic(auto, using(crate::proofs::Counting::some_left, crate::proofs::Counting::all_left))]
     pub fn count(&mut self, point: u32, from: Spot) -> Way
         requires runs { self.old.over ≡ None }
-        ensures run { stood (beyond from) (leads (beyond from).at self.new.pc result) self.new ≡ counts point (standing (beyond from) self.old) }
-        ensures over { (at address : ℕ) → is_some (leads at address result) ≡ not (is_some self.new.over) }
+        ensures run { stood (beyond from) (leads (beyond from).at self.new.pc result) self.new
+            ≡ counts point (standing (beyond from) self.old) }
+        ensures over { (at address : ℕ) → is_some (leads at address result)
+            ≡ not (is_some self.new.over) }
     {
         let remaining = one_fewer(self.remaining);
         self.remaining = remaining;
@@ -122,7 +132,8 @@ impl JobRun {
         requires divisor { IsNone quotient ↔ (divisor ≡ 0) }
         ensures run { stood (beyond from) (leads (beyond from).at self.new.pc result) self.new
             ≡ divides r divisor (unwrap_or quotient 0) (standing (beyond from) self.old) }
-        ensures over { (at address : ℕ) → is_some (leads at address result) ≡ not (is_some self.new.over) }
+        ensures over { (at address : ℕ) → is_some (leads at address result)
+            ≡ not (is_some self.new.over) }
     {
         match quotient {
             Some(value) => self.set(r, value),
@@ -142,7 +153,8 @@ impl JobRun {
     /// Goes to an address where a register is 0, and else on.
     pub fn go_if_zero(&mut self, r: u8, a: u32, from: Spot) -> Way
         requires register { r < 16 }
-        ensures run { stood (beyond from) (leads (beyond from).at self.new.pc result) self.new ≡ at_zero (reg self.old r)
+        ensures run { stood (beyond from) (leads (beyond from).at self.new.pc result) self.new
+            ≡ at_zero (reg self.old r)
             (goes a (standing (beyond from) self.old)) (next (standing (beyond from) self.old)) }
         ensures over { self.new.over ≡ self.old.over }
         ensures next { (at address : ℕ) → is_some (leads at address result) ≡ true }
@@ -171,8 +183,10 @@ impl JobRun {
     /// A record joins the chain.
     pub fn join(&mut self, file: u32, number: u32, from: Spot) -> Way
         requires runs { self.old.over ≡ None }
-        ensures run { stood (beyond from) (leads (beyond from).at self.new.pc result) self.new ≡ joins file number (standing (beyond from) self.old) }
-        ensures over { (at address : ℕ) → is_some (leads at address result) ≡ not (is_some self.new.over) }
+        ensures run { stood (beyond from) (leads (beyond from).at self.new.pc result) self.new
+            ≡ joins file number (standing (beyond from) self.old) }
+        ensures over { (at address : ℕ) → is_some (leads at address result)
+            ≡ not (is_some self.new.over) }
     {
         if self.done.chain.as_slice().len() < MOST_HELD {
             self.done.chain.push(Held { file, number });
@@ -209,8 +223,10 @@ impl JobRun {
     /// Sends the outgoing values.
     pub fn send(&mut self, to: SendTo, from: Spot) -> Way
         requires runs { self.old.over ≡ None }
-        ensures run { stood (beyond from) (leads (beyond from).at self.new.pc result) self.new ≡ sends to (standing (beyond from) self.old) }
-        ensures over { (at address : ℕ) → is_some (leads at address result) ≡ not (is_some self.new.over) }
+        ensures run { stood (beyond from) (leads (beyond from).at self.new.pc result) self.new
+            ≡ sends to (standing (beyond from) self.old) }
+        ensures over { (at address : ℕ) → is_some (leads at address result)
+            ≡ not (is_some self.new.over) }
     {
         if self.done.sends.as_slice().len() < MOST_SENT {
             let values = self.outgoing.values();
@@ -280,8 +296,10 @@ impl JobRun {
     pub fn call(&mut self, a: u32, answer: u32, from: Spot) -> Way
         requires runs { self.old.over ≡ None }
         requires spot { (from.left ≤ from.all) × (from.all < 2 ^ 63) }
-        ensures run { stood (beyond from) (leads (beyond from).at self.new.pc result) self.new ≡ calls a answer (standing (beyond from) self.old) }
-        ensures over { (at address : ℕ) → is_some (leads at address result) ≡ not (is_some self.new.over) }
+        ensures run { stood (beyond from) (leads (beyond from).at self.new.pc result) self.new
+            ≡ calls a answer (standing (beyond from) self.old) }
+        ensures over { (at address : ℕ) → is_some (leads at address result)
+            ≡ not (is_some self.new.over) }
     {
         if self.frames.len() < MOST_CALLERS {
             self.frames
@@ -298,8 +316,10 @@ impl JobRun {
     #[inline(always)]
     pub fn give_back(&mut self, answer: u32, from: Spot) -> Way
         requires runs { self.old.over ≡ None }
-        ensures run { stood (beyond from) (leads (beyond from).at self.new.pc result) self.new ≡ returns self.old.frames answer (standing (beyond from) self.old) }
-        ensures over { (at address : ℕ) → is_some (leads at address result) ≡ not (is_some self.new.over) }
+        ensures run { stood (beyond from) (leads (beyond from).at self.new.pc result) self.new
+            ≡ returns self.old.frames answer (standing (beyond from) self.old) }
+        ensures over { (at address : ℕ) → is_some (leads at address result)
+            ≡ not (is_some self.new.over) }
     {
         if self.frames.awaits(answer) {
             self.answers = self.outgoing.all_eight();
@@ -334,8 +354,10 @@ impl JobRun {
     /// The job ends, unless a caller waits.
     pub fn end(&mut self, from: Spot) -> Way
         requires runs { self.old.over ≡ None }
-        ensures run { stood (beyond from) (leads (beyond from).at self.new.pc result) self.new ≡ ends self.old.frames (standing (beyond from) self.old) }
-        ensures over { (at address : ℕ) → is_some (leads at address result) ≡ not (is_some self.new.over) }
+        ensures run { stood (beyond from) (leads (beyond from).at self.new.pc result) self.new
+            ≡ ends self.old.frames (standing (beyond from) self.old) }
+        ensures over { (at address : ℕ) → is_some (leads at address result)
+            ≡ not (is_some self.new.over) }
     {
         if self.frames.len() == 0 {
             self.done.outcome = Outcome::Ended;
@@ -359,7 +381,8 @@ fn has_record(chain: &Chain, file: u32, number: u32) -> bool
 
 /// The place of a record in a chain.
 fn place_of(chain: &Chain, file: u32, number: u32) -> Option<usize>
-    ensures { result ≡ position (λ (h : Held). nat_eq h.file file && nat_eq h.number number) chain.now }
+    ensures { result ≡ position (λ (h : Held). nat_eq h.file file && nat_eq h.number number)
+        chain.now }
 {
     chain
         .as_slice()

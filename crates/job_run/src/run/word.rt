@@ -11,7 +11,8 @@ pub fn read_at<W: Words>(words: &mut W, w: u32, n: u32, i: u32) -> u32
     requires { W.may_read words.old (w + n * i) ≡ true }
     ensures value { result ≡ slice_index (W.values words.old) (w + n * i) }
     ensures values { W.values words.new ≡ W.values words.old }
-    ensures allowed { (W.may_read words.new ≡ W.may_read words.old) × (W.may_write words.new ≡ W.may_write words.old) }
+    ensures allowed { (W.may_read words.new ≡ W.may_read words.old)
+        × (W.may_write words.new ≡ W.may_write words.old) }
     ensures told { W.told words.new ≡ told_more (W.told words.old) (Load (w + n * i) result) }
     ensures like { W.like words.old words.new }
 {
@@ -32,7 +33,8 @@ pub fn place_to_read<W: Words>(words: &W, w: u32, n: u32, i: u32) -> u32
 pub fn write_at<W: Words>(words: &mut W, w: u32, n: u32, i: u32, value: u32)
     requires { W.may_write words.old (w + n * i) ≡ true }
     ensures values { W.values words.new ≡ slice_set (W.values words.old) (w + n * i) value }
-    ensures allowed { (W.may_read words.new ≡ W.may_read words.old) × (W.may_write words.new ≡ W.may_write words.old) }
+    ensures allowed { (W.may_read words.new ≡ W.may_read words.old)
+        × (W.may_write words.new ≡ W.may_write words.old) }
     ensures told { W.told words.new ≡ told_more (W.told words.old) (Store (w + n * i) value) }
     ensures like { W.like words.old words.new }
 {

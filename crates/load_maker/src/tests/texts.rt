@@ -1,4 +1,5 @@
-// The parts of a text whose blocks differ, written by hand from the rules of the load, to compare with.
+// The parts of a text whose blocks differ, written by hand from the rules of the load, to compare
+// with.
 
 /// The exchange text of two calls, up to its fourth block.
 pub const FRONT_OF_TWO: &[u8] = b"SIGNAL S1 SINGLE BUFFERED B DATA 3;

@@ -10,13 +10,19 @@ use Rattle.block_change.proofs.words.mark_all.Goals as goal
 pub word_of-word-requires : goal.word_of-word-requires
 word_of-word-requires c =
     let h : Held = get_or c.args.records.now c.loop-held.held-index (record { file = 0; number = 0 }) in
-    let fits : IsRecord c.args.new.now h = all_here (IsRecord c.args.new.now) c.args.records.now c.loop-held.held-index h c.requires.records c.loop-held-test.true (get_or_default c.args.records.now c.loop-held.held-index (record { file = 0; number = 0 }) h c.loop-held-test.true) in
+    let fits : IsRecord c.args.new.now h = all_here (IsRecord c.args.new.now) c.args.records.now c.loop-held.held-index
+    h c.requires.records c.loop-held-test.true
+    (get_or_default c.args.records.now c.loop-held.held-index (record { file = 0; number = 0 }) h
+    c.loop-held-test.true) in
     has_mark c.args.new.now c.args.layout.now h c.requires.layout fits
 
 pub set-requires : goal.set-requires
 set-requires c =
     let h : Held = get_or c.args.records.now c.loop-held.held-index (record { file = 0; number = 0 }) in
-    let fits : IsRecord c.args.new.now h = all_here (IsRecord c.args.new.now) c.args.records.now c.loop-held.held-index h c.requires.records c.loop-held-test.true (get_or_default c.args.records.now c.loop-held.held-index (record { file = 0; number = 0 }) h c.loop-held-test.true) in
+    let fits : IsRecord c.args.new.now h = all_here (IsRecord c.args.new.now) c.args.records.now c.loop-held.held-index
+    h c.requires.records c.loop-held-test.true
+    (get_or_default c.args.records.now c.loop-held.held-index (record { file = 0; number = 0 }) h
+    c.loop-held-test.true) in
     let number = c.word_of-word.ensures c.args.new.now.blocks c.requires.layout (mark_of c.args.new.now h fits) in
     mark_inside c.args.new.now h c.word_of-word.result (length c.loop-held.words) c.kept.ensures fits number c.loop-held.invariant.whole
 
@@ -24,9 +30,12 @@ pub loop-held-preserved : goal.loop-held-preserved
 loop-held-preserved c =
     let h : Held = get_or c.args.records.now c.loop-held.held-index (record { file = 0; number = 0 }) in
     let is = get_or_default c.args.records.now c.loop-held.held-index (record { file = 0; number = 0 }) h c.loop-held-test.true in
-    let fits : IsRecord c.args.new.now h = all_here (IsRecord c.args.new.now) c.args.records.now c.loop-held.held-index h c.requires.records c.loop-held-test.true is in
+    let fits : IsRecord c.args.new.now h = all_here (IsRecord c.args.new.now) c.args.records.now c.loop-held.held-index
+    h c.requires.records c.loop-held-test.true is in
     let number = c.word_of-word.ensures c.args.new.now.blocks c.requires.layout (mark_of c.args.new.now h fits) in
-    marks_more c.args.new.now c.args.words.now c.loop-held.words c.set.new.self c.args.records.now c.loop-held.held-index c.word_of-word.result h c.kept.ensures c.loop-held-test.true is fits number c.set.ensures c.loop-held.invariant
+    marks_more c.args.new.now c.args.words.now c.loop-held.words c.set.new.self c.args.records.now
+    c.loop-held.held-index c.word_of-word.result h c.kept.ensures c.loop-held-test.true is fits number c.set.ensures
+    c.loop-held.invariant
 
 pub returns : goal.returns
 returns c = λ x store are.

@@ -8,5 +8,7 @@ use Rattle.block_change.proofs.words.old_value.Goals as goal
 pub returns : goal.returns
 returns c =
     let x = c.args.old.now.exchange.now in
-    let number = c.word_of.ensures x.blocks c.requires.layout (same_is_cell x c.args.new.now c.kept.ensures c.args.cell c.in-Some.found (sym c.in-Some.ensures)) in
-    ap Some (c.value_at.ensures ∙ ap (slice_index c.args.words.now) number) ∙ ap (option_map (λ d. slice_index c.args.words.now (cell_number x.blocks d))) c.in-Some.ensures
+    let number = c.word_of.ensures x.blocks c.requires.layout
+    (same_is_cell x c.args.new.now c.kept.ensures c.args.cell c.in-Some.found (sym c.in-Some.ensures)) in
+    ap Some (c.value_at.ensures ∙ ap (slice_index c.args.words.now) number)
+    ∙ ap (option_map (λ d. slice_index c.args.words.now (cell_number x.blocks d))) c.in-Some.ensures

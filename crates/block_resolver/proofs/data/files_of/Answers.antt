@@ -5,5 +5,6 @@ use Rattle.block_resolver.proofs.data.files_of.Goals as goal
 
 pub loop-decl-preserved : goal.loop-decl-preserved
 loop-decl-preserved c = record {
-  same = c.in_ok-add_file.ensures (files_from (drop (c.loop-decl.decl-index + 1) c.args.decls.now)) ∙ files_cut c.args.decls.now _ _ _ _ _ (omega arith) c.decl-item.is c.loop-decl.invariant;
+  same = c.in_ok-add_file.ensures (files_from (drop (c.loop-decl.decl-index + 1) c.args.decls.now))
+      ∙ files_cut c.args.decls.now _ _ _ _ _ (omega arith) c.decl-item.is c.loop-decl.invariant;
 }

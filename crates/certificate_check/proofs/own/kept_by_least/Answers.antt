@@ -6,7 +6,8 @@ use Rattle.certificate_check.proofs.Summing.{few_summaries}
 use Rattle.certificate_check.proofs.own.kept_by_least.Goals as goal
 
 pub new-requires : goal.new-requires
-new-requires c = few_summaries c.args.exchange.now (IsLeast c.args.exchange.now) c.args.summaries c.kept.ensures.limited.entries (by_least c.args.exchange.now c.args.summaries c.requires)
+new-requires c = few_summaries c.args.exchange.now (IsLeast c.args.exchange.now) c.args.summaries
+    c.kept.ensures.limited.entries (by_least c.args.exchange.now c.args.summaries c.requires)
 
 pub returns-clause-checked : goal.returns-clause-checked
 returns-clause-checked c = own_checked c.args.exchange.now c.new.result (subst (AreSummaries c.args.exchange.now) (sym c.new.ensures) c.requires)

@@ -8,4 +8,5 @@ returns-in_err-n c =
     rw gave (small_none c.args.label.now c.args.text.now c.args.below c.args.end c.in_err-n.ensures)
 
 pub returns-else-n-from : goal.returns-else-n-from
-returns-else-n-from c = small_large c.args.label.now c.args.text.now c.in_ok-n.rest.now c.in_ok-n.n c.args.below c.args.end c.requires c.in_ok-n.ensures (omega arith)
+returns-else-n-from c = small_large c.args.label.now c.args.text.now c.in_ok-n.rest.now c.in_ok-n.n c.args.below
+    c.args.end c.requires c.in_ok-n.ensures (omega arith)

@@ -8,4 +8,5 @@ pub returns-in_default-shape : goal.returns-in_default-shape
 returns-in_default-shape c = no_second_line c.args.text.now c.in-Some.rest.now c.in-Some.version c.in-Some.ensures c.in_default-shape.ensures
 
 pub read_facts-requires-clause-begun : goal.read_facts-requires-clause-begun
-read_facts-requires-clause-begun c = two_lines c.args.text.now c.in-Some.rest.now c.in-Some-shape.rest.now c.in-Some.version c.in-Some-shape.shape c.in-Some.ensures c.in-Some-shape.ensures
+read_facts-requires-clause-begun c = two_lines c.args.text.now c.in-Some.rest.now c.in-Some-shape.rest.now
+    c.in-Some.version c.in-Some-shape.shape c.in-Some.ensures c.in-Some-shape.ensures

@@ -15,12 +15,22 @@ returns-in_err-point c =
 pub returns-in_err-slot : goal.returns-in_err-slot
 returns-in_err-slot c =
     let gave : c.from_residual-in_err-slot.result ≡ None = search rules in
-    rw gave (no_slot c.args.text.now c.in_ok-entry.rest.now c.in_ok-point.rest.now c.in_ok-entry.entry c.in_ok-point.point c.in_ok-entry.ensures c.in_ok-point.ensures c.in_err-slot.ensures)
+    rw gave (no_slot c.args.text.now c.in_ok-entry.rest.now c.in_ok-point.rest.now c.in_ok-entry.entry
+    c.in_ok-point.point c.in_ok-entry.ensures c.in_ok-point.ensures c.in_err-slot.ensures)
 
 pub returns-in_err-value : goal.returns-in_err-value
 returns-in_err-value c =
     let gave : c.from_residual-in_err-value.result ≡ None = search rules in
-    rw gave (no_value c.args.text.now c.in_ok-entry.rest.now c.in_ok-point.rest.now c.in_ok-slot.rest.now c.in_ok-entry.entry c.in_ok-point.point c.in_ok-slot.slot c.in_ok-entry.ensures c.in_ok-point.ensures c.in_ok-slot.ensures c.in_err-value.ensures)
+    rw gave (no_value c.args.text.now c.in_ok-entry.rest.now c.in_ok-point.rest.now c.in_ok-slot.rest.now
+    c.in_ok-entry.entry c.in_ok-point.point c.in_ok-slot.slot c.in_ok-entry.ensures c.in_ok-point.ensures
+    c.in_ok-slot.ensures c.in_err-value.ensures)
 
 pub returns : goal.returns
-returns c = fact_read c.args.text.now c.in_ok-entry.rest.now c.in_ok-point.rest.now c.in_ok-slot.rest.now c.in_ok-value.rest.now (record { entry = c.in_ok-entry.entry; point = c.in_ok-point.point; slot = c.in_ok-slot.slot; value = c.in_ok-value.value }) c.in_ok-entry.ensures c.in_ok-point.ensures c.in_ok-slot.ensures c.in_ok-value.ensures
+returns c = fact_read c.args.text.now c.in_ok-entry.rest.now c.in_ok-point.rest.now c.in_ok-slot.rest.now
+    c.in_ok-value.rest.now (record {
+      entry = c.in_ok-entry.entry;
+      point = c.in_ok-point.point;
+      slot = c.in_ok-slot.slot;
+      value = c.in_ok-value.value;
+    }) c.in_ok-entry.ensures c.in_ok-point.ensures c.in_ok-slot.ensures
+    c.in_ok-value.ensures

@@ -11,10 +11,14 @@ pub emit_text-requires : goal.emit_text-requires
 emit_text-requires c =
     let at : Setting = record { exchange = c.args.exchange; layout = c.args.layout; addresses = c.args.addresses; block = c.loop-number.number } in
     let from : c.as_slice-block-items.result.now ≡ c.args.exchange.now.blocks = search (rules, common_steps) in
-    text_in at c.args.exchange.now c.as_slice-block-items.result.now c.loop-number.number c.block-item.result c.kept.ensures c.requires from c.loop-number-test.true c.block-item.is refl refl
+    text_in at c.args.exchange.now c.as_slice-block-items.result.now c.loop-number.number c.block-item.result
+    c.kept.ensures c.requires from c.loop-number-test.true c.block-item.is refl refl
 
 pub loop-number-preserved : goal.loop-number-preserved
 loop-number-preserved c =
     let at : Setting = record { exchange = c.args.exchange; layout = c.args.layout; addresses = c.args.addresses; block = c.loop-number.number } in
     let from : c.as_slice-block-items.result.now ≡ c.args.exchange.now.blocks = search (rules, common_steps) in
-    pass_more c.args.exchange.now c.args.addresses.now at c.as_slice-block-items.result.now c.loop-number.number c.block-item.result c.loop-number.ops c.emit_text.new.ops c.loop-number.blocks c.push.new.self c.in_ok-places.places from c.loop-number-test.true c.block-item.is refl refl refl c.in_ok-places.ensures.code c.in_ok-places.ensures.places c.in_ok-push.ensures c.loop-number.invariant
+    pass_more c.args.exchange.now c.args.addresses.now at c.as_slice-block-items.result.now c.loop-number.number
+    c.block-item.result c.loop-number.ops c.emit_text.new.ops c.loop-number.blocks c.push.new.self
+    c.in_ok-places.places from c.loop-number-test.true c.block-item.is refl refl refl c.in_ok-places.ensures.code
+    c.in_ok-places.ensures.places c.in_ok-push.ensures c.loop-number.invariant

@@ -6,5 +6,6 @@ use Rattle.code_gen.proofs.records.push_inits.Given as goal
 abbrev pub invariant-loop-field : goal.invariant-loop-field
 invariant-loop-field l = record {
   word : l.word ≡ l.place.first + l.field-index;
-  code : l.ops ++ inits_code (placed_of l.place) l.field-index (drop l.field-index l.field-items) ≡ l.fn.ops ++ inits_code (placed_of l.place) 0 l.place.file.now.fields;
+  code : l.ops ++ inits_code (placed_of l.place) l.field-index (drop l.field-index l.field-items) ≡ l.fn.ops
+      ++ inits_code (placed_of l.place) 0 l.place.file.now.fields;
 }

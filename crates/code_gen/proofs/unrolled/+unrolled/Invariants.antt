@@ -5,7 +5,8 @@ use Rattle.code_gen.proofs.unrolled.+unrolled.Given as goal
 
 abbrev pub invariant-text_length-loop-statement : goal.invariant-text_length-loop-statement
 invariant-text_length-loop-statement l =
-    l.sum + total (map (stmt_unrolled (some_places l.exchange)) (drop l.statement-index l.statement-items)) ≡ total (map (stmt_unrolled (some_places l.exchange)) l.text)
+    l.sum + total (map (stmt_unrolled (some_places l.exchange)) (drop l.statement-index l.statement-items))
+    ≡ total (map (stmt_unrolled (some_places l.exchange)) l.text)
 
 abbrev pub invariant-whens_length-loop-when : goal.invariant-whens_length-loop-when
 invariant-whens_length-loop-when l =

@@ -4,7 +4,8 @@ use Rattle.conflict_rows.proofs.clashes.in_order.Goals as goal
 
 pub returns-clause-same : goal.returns-clause-same
 returns-clause-same c =
-    same_rows c.args.rows c.into_vec-sorted.result.items c.sort_unstable.new.self.items c.dedup.new.self.items c.from_vec.result c.into_vec-sorted.ensures c.sort_unstable.ensures.permutation
+    same_rows c.args.rows c.into_vec-sorted.result.items c.sort_unstable.new.self.items c.dedup.new.self.items
+    c.from_vec.result c.into_vec-sorted.ensures c.sort_unstable.ensures.permutation
     (dedup_is alike c.sort_unstable.new.self.items c.dedup.new.self.items c.dedup.ensures.filtered) c.from_vec.ensures
 
 pub returns-clause-rising : goal.returns-clause-rising

@@ -7,7 +7,8 @@ loop-place-init c = items_begin (IsOfLater c.args.ones.now) c.args.others.now c.
 
 pub loop-place-preserved : goal.loop-place-preserved
 loop-place-preserved c =
-    items_more (IsOfLater c.args.ones.now) c.args.others.now c.loop-place.place c.at.result c.args.rows.now c.loop-place.rows c.push_field.new.rows c.at.ensures c.in_ok-push_field.ensures c.loop-place.invariant
+    items_more (IsOfLater c.args.ones.now) c.args.others.now c.loop-place.place c.at.result c.args.rows.now
+    c.loop-place.rows c.push_field.new.rows c.at.ensures c.in_ok-push_field.ensures c.loop-place.invariant
 
 pub returns : goal.returns
 returns c =

@@ -3,4 +3,5 @@ use Rattle.conflict_rows.proofs.clashes.push_with.Goals as goal
 
 pub returns : goal.returns
 returns c =
-    with_own c.args.others.now c.args.place c.args.one c.selector_of.result c.args.rows.now c.push_both.new.rows c.push_both-2.new.rows c.selector_of.ensures c.in_ok-push_both.ensures c.in_ok-push_both-2.ensures
+    with_own c.args.others.now c.args.place c.args.one c.selector_of.result c.args.rows.now c.push_both.new.rows
+    c.push_both-2.new.rows c.selector_of.ensures c.in_ok-push_both.ensures c.in_ok-push_both-2.ensures

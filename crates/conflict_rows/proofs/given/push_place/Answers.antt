@@ -16,6 +16,9 @@ levels_of-requires c =
 
 pub returns : goal.returns
 returns c =
-    place_written c.args.of.now.exchange.now c.args.of.now.known.now c.args.of.now.entry c.args.summary.now c.args.at.now c.as_slice-all.result.now c.in_ok-accesses.accesses c.as_slice-given.result.now
+    place_written c.args.of.now.exchange.now c.args.of.now.known.now c.args.of.now.entry c.args.summary.now
+    c.args.at.now c.as_slice-all.result.now c.in_ok-accesses.accesses c.as_slice-given.result.now
     c.as_slice-levels.result.now c.in_ok-sent.sent c.as_slice-listed.result.now c.args.rows.now c.push_accesses.new.rows c.push_levels.new.rows
-    c.as_slice-all.ensures c.as_slice-given.ensures c.as_slice-levels.ensures c.as_slice-listed.ensures c.in_ok-accesses.ensures.exact c.in_ok-sent.ensures.exact c.in_ok-push_accesses.ensures c.in_ok-push_levels.ensures
+    c.as_slice-all.ensures c.as_slice-given.ensures c.as_slice-levels.ensures c.as_slice-listed.ensures
+    c.in_ok-accesses.ensures.exact c.in_ok-sent.ensures.exact c.in_ok-push_accesses.ensures
+    c.in_ok-push_levels.ensures

@@ -7,12 +7,14 @@ loop-place-init c = none_written (clash_text c.args.pair) c.args.rows.now c.args
 
 pub loop-place-preserved : goal.loop-place-preserved
 loop-place-preserved c =
-    more_written (clash_text c.args.pair) c.args.rows.now c.args.room c.loop-place.place c.len.result c.clash_at-row.result c.loop-place.text c.add_clash.new.text
+    more_written (clash_text c.args.pair) c.args.rows.now c.args.room c.loop-place.place c.len.result
+    c.clash_at-row.result c.loop-place.text c.add_clash.new.text
     c.clash_at-row.ensures c.in_ok-add_clash.ensures c.len.ensures c.if-room-len.false c.loop-place.invariant
 
 pub returns-then-room-len : goal.returns-then-room-len
 returns-then-room-len c =
-    too_much_written (clash_text c.args.pair) c.args.rows.now c.args.room c.loop-place.place c.len.result c.clash_at-row.result c.loop-place.text c.add_clash.new.text
+    too_much_written (clash_text c.args.pair) c.args.rows.now c.args.room c.loop-place.place c.len.result
+    c.clash_at-row.result c.loop-place.text c.add_clash.new.text
     c.clash_at-row.ensures c.in_ok-add_clash.ensures c.len.ensures c.if-room-len.true c.loop-place.invariant
 
 pub returns : goal.returns

@@ -7,13 +7,16 @@ loop-place-init c = none_written (point_text c.args.exchange.now c.args.entry) c
 
 pub loop-place-preserved : goal.loop-place-preserved
 loop-place-preserved c =
-    more_written (point_text c.args.exchange.now c.args.entry) c.args.rows.now c.args.room c.loop-place.place c.len.result c.row_at-row.result c.loop-place.text c.add_point.new.text
+    more_written (point_text c.args.exchange.now c.args.entry) c.args.rows.now c.args.room c.loop-place.place
+    c.len.result c.row_at-row.result c.loop-place.text c.add_point.new.text
     c.row_at-row.ensures c.in_ok-add_point.ensures c.len.ensures c.if-room-len.false c.loop-place.invariant
 
 pub returns-then-room-len : goal.returns-then-room-len
 returns-then-room-len c =
-    too_much_written (point_text c.args.exchange.now c.args.entry) c.args.rows.now c.args.room c.loop-place.place c.len.result c.row_at-row.result c.loop-place.text c.add_point.new.text
+    too_much_written (point_text c.args.exchange.now c.args.entry) c.args.rows.now c.args.room c.loop-place.place
+    c.len.result c.row_at-row.result c.loop-place.text c.add_point.new.text
     c.row_at-row.ensures c.in_ok-add_point.ensures c.len.ensures c.if-room-len.true c.loop-place.invariant
 
 pub returns : goal.returns
-returns c = all_written (point_text c.args.exchange.now c.args.entry) c.args.rows.now c.args.room c.loop-place.place c.loop-place.text c.loop-place-test.false c.loop-place.invariant
+returns c = all_written (point_text c.args.exchange.now c.args.entry) c.args.rows.now c.args.room c.loop-place.place
+    c.loop-place.text c.loop-place-test.false c.loop-place.invariant

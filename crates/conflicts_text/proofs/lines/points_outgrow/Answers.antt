@@ -13,7 +13,8 @@ loop-place-preserved c =
 
 pub returns-then-left-size : goal.returns-then-left-size
 returns-then-left-size c =
-    leaves_none (point_text c.args.exchange.now c.args.entry) c.args.rows.now c.args.room c.loop-place.place c.loop-place.left c.in_ok-size.size c.row_at.result _
+    leaves_none (point_text c.args.exchange.now c.args.entry) c.args.rows.now c.args.room c.loop-place.place
+    c.loop-place.left c.in_ok-size.size c.row_at.result _
     c.row_at.ensures c.in_ok-size.ensures c.if-left-size.true c.loop-place.invariant refl
 
 pub returns : goal.returns

@@ -9,4 +9,5 @@ pub loop-number-preserved : goal.loop-number-preserved
 loop-number-preserved c = range_more Entry c.loop-number.number c.args.made.now c.loop-number.made c.push.new.self c.loop-number.invariant c.in_ok-push.ensures
 
 pub returns : goal.returns
-returns c = range_end Entry c.loop-number.number c.args.count c.args.made.now c.loop-number.made c.loop-number.auto.number-end c.loop-number-test.false c.loop-number.invariant
+returns c = range_end Entry c.loop-number.number c.args.count c.args.made.now c.loop-number.made
+    c.loop-number.auto.number-end c.loop-number-test.false c.loop-number.invariant

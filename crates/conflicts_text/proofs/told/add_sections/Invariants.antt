@@ -5,5 +5,6 @@ use Rattle.conflicts_text.proofs.told.add_sections.Given as goal
 
 abbrev pub invariant-loop-place : goal.invariant-loop-place
 invariant-loop-place l =
-    Goes (IsSectionText l.means.exchange.now l.means.summaries.now) (HasSectionLines l.means.exchange.now l.means.summaries.now) l.most l.sections l.place l.room l.fn.text l.text
+    Goes (IsSectionText l.means.exchange.now l.means.summaries.now)
+    (HasSectionLines l.means.exchange.now l.means.summaries.now) l.most l.sections l.place l.room l.fn.text l.text
     × IsFor l.means.exchange.now l.means.table.now l.analyser

@@ -11,12 +11,15 @@ use Rattle.conflicts_text.proofs.told.entry_text.Goals as goal
 
 pub points_within-requires-clause-places : goal.points_within-requires-clause-places
 points_within-requires-clause-places c =
-    reached_in c.args.means.now.exchange.now (Knows c.known-facts.result.now) c.args.number c.args.means.now.places.now c.in_ok-there.there c.as_slice-reached.result.now
+    reached_in c.args.means.now.exchange.now (Knows c.known-facts.result.now) c.args.number c.args.means.now.places.now
+    c.in_ok-there.there c.as_slice-reached.result.now
     c.requires.of.places_are c.in_ok-there.ensures c.as_slice-reached.ensures
 
 pub returns-in_default-clause-text : goal.returns-in_default-clause-text
 returns-in_default-clause-text c =
-    let more = rows_are_more (AreGiven c.args.means.now.exchange.now (Knows c.known-facts.result.now) c.args.number c.at-summary.result.now) (AreSomeGiven c.args.means.now.exchange.now (Knows c.known-facts.result.now) c.args.number c.at-summary.result.now)
+    let more = rows_are_more (AreGiven c.args.means.now.exchange.now (Knows c.known-facts.result.now) c.args.number
+    c.at-summary.result.now) (AreSomeGiven c.args.means.now.exchange.now (Knows c.known-facts.result.now)
+    c.args.number c.at-summary.result.now)
     (flat_map (point_text c.args.means.now.exchange.now c.args.number)) c.args.room c.in_ok-found.found c.in_ok-found.ensures c.in_default.is in (
       flat_map (point_text c.args.means.now.exchange.now c.args.number) more.0,
       record {
@@ -32,15 +35,21 @@ returns-in_default-clause-text c =
 
 pub returns-clause-text : goal.returns-clause-text
 returns-clause-text c =
-    whole_within (IsEntryText c.args.means.now.exchange.now c.args.means.now.summaries.now c.args.number) (HasEntryLines c.args.means.now.exchange.now c.args.means.now.summaries.now c.args.number) c.args.room (flat_map (point_text c.args.means.now.exchange.now c.args.number) c.as_slice-lines.result.now) c.in_ok-text.text
+    whole_within (IsEntryText c.args.means.now.exchange.now c.args.means.now.summaries.now c.args.number)
+    (HasEntryLines c.args.means.now.exchange.now c.args.means.now.summaries.now c.args.number) c.args.room
+    (flat_map (point_text c.args.means.now.exchange.now c.args.number) c.as_slice-lines.result.now)
+    c.in_ok-text.text
     (record {
       summary = c.at-summary.result.now;
       there = c.at-summary.ensures;
       rows = c.in-Some.rows;
       given = given_of_least c.args.means.now.exchange.now c.args.number c.known-facts.result.now c.at-summary.result.now c.in-Some.rows
           (c.known-facts.ensures c.args.means.now.exchange.now c.args.number (learned_all _ c.in_ok-learn.ensures.learned))
-          (rows_are_all (AreGiven c.args.means.now.exchange.now (Knows c.known-facts.result.now) c.args.number c.at-summary.result.now) (AreSomeGiven c.args.means.now.exchange.now (Knows c.known-facts.result.now) c.args.number c.at-summary.result.now)
-          (flat_map (point_text c.args.means.now.exchange.now c.args.number)) c.args.room c.in_ok-found.found c.in_ok-found.ensures c.in-Some.rows c.in-Some.is);
+          (rows_are_all (AreGiven c.args.means.now.exchange.now (Knows c.known-facts.result.now) c.args.number
+          c.at-summary.result.now) (AreSomeGiven c.args.means.now.exchange.now (Knows c.known-facts.result.now)
+          c.args.number c.at-summary.result.now)
+          (flat_map (point_text c.args.means.now.exchange.now c.args.number)) c.args.room c.in_ok-found.found
+          c.in_ok-found.ensures c.in-Some.rows c.in-Some.is);
       is = ap (flat_map (point_text c.args.means.now.exchange.now c.args.number)) c.as_slice-lines.ensures;
     })
     (entry_lines c.args.means.now.exchange.now c.args.means.now.summaries.now c.args.number) c.in_ok-text.ensures

@@ -7,7 +7,8 @@ use Rattle.conflicts_text.proofs.told.pair_text.Goals as goal
 
 pub returns : goal.returns
 returns c =
-    whole_within (IsPairText c.args.summaries.now c.args.pair) (HasPairLines c.args.summaries.now c.args.pair) c.args.room (flat_map (clash_text c.args.pair) c.as_slice-lines.result.now) c.in_ok-text.text
+    whole_within (IsPairText c.args.summaries.now c.args.pair) (HasPairLines c.args.summaries.now c.args.pair)
+    c.args.room (flat_map (clash_text c.args.pair) c.as_slice-lines.result.now) c.in_ok-text.text
     (record {
       first = c.at-first.result.now;
       later = c.at-later.result.now;

@@ -12,9 +12,12 @@ add_sections-requires-clause-of c = record {
 }
 
 pub add_sections-requires-clause-within : goal.add_sections-requires-clause-within
-add_sections-requires-clause-within c = slice_within c.in_ok-summaries.summaries c.args.asked c.len.result c.in_ok-made.made c.as_slice-told.result.now c.len.ensures c.in_ok-made.ensures c.as_slice-told.ensures
+add_sections-requires-clause-within c = slice_within c.in_ok-summaries.summaries c.args.asked c.len.result
+    c.in_ok-made.made c.as_slice-told.result.now c.len.ensures c.in_ok-made.ensures c.as_slice-told.ensures
 
 pub returns : goal.returns
 returns c =
-    whole c.args.exchange.now c.args.asked c.in_ok-summaries.summaries c.len.result c.in_ok-made.made c.as_slice-told.result.now c.in_ok-text.text c.append.new.self c.add_sections.new.text
-    c.in_ok-summaries.ensures c.len.ensures c.in_ok-made.ensures c.as_slice-told.ensures c.in_ok-text.ensures c.in_ok-append.ensures c.in_ok-add_sections.ensures
+    whole c.args.exchange.now c.args.asked c.in_ok-summaries.summaries c.len.result c.in_ok-made.made
+    c.as_slice-told.result.now c.in_ok-text.text c.append.new.self c.add_sections.new.text
+    c.in_ok-summaries.ensures c.len.ensures c.in_ok-made.ensures c.as_slice-told.ensures c.in_ok-text.ensures
+    c.in_ok-append.ensures c.in_ok-add_sections.ensures

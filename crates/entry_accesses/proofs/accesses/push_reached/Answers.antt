@@ -13,4 +13,6 @@ pub returns : goal.returns
 returns g c =
     let P = g.K.KnownFacts.knows c.args.known.now in
     let reached : Reached P c.args.entry c.args.at.now.point = search (rules, common_steps) in
-    reached_adds c.args.exchange.now P c.args.entry (seen c.args.at.now) c.push_uses.new.uses c.each_once-uses.result c.as_slice.result.now c.new-uses.result c.args.accesses.now c.push_all.new.accesses reached c.new-uses.ensures c.in_ok-push_uses.ensures c.each_once-uses.ensures c.as_slice.ensures c.in_ok-push_all.ensures
+    reached_adds c.args.exchange.now P c.args.entry (seen c.args.at.now) c.push_uses.new.uses c.each_once-uses.result
+    c.as_slice.result.now c.new-uses.result c.args.accesses.now c.push_all.new.accesses reached c.new-uses.ensures
+    c.in_ok-push_uses.ensures c.each_once-uses.ensures c.as_slice.ensures c.in_ok-push_all.ensures

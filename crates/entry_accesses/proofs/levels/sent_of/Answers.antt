@@ -8,14 +8,18 @@ use Rattle.entry_accesses.proofs.levels.sent_of.Goals as goal
 
 pub loop-at-init : goal.loop-at-init
 loop-at-init g c =
-    go_new (λ (at : PlaceAt). HasLevel c.args.exchange.now (g.K.KnownFacts.knows c.args.known.now) c.args.entry (seen at)) c.args.places.now c.new-sent.result c.new-sent.ensures
+    go_new (λ (at : PlaceAt). HasLevel c.args.exchange.now (g.K.KnownFacts.knows c.args.known.now) c.args.entry
+    (seen at)) c.args.places.now c.new-sent.result c.new-sent.ensures
 
 pub loop-at-preserved : goal.loop-at-preserved
 loop-at-preserved g c =
-    go_more (λ (at : PlaceAt). HasLevel c.args.exchange.now (g.K.KnownFacts.knows c.args.known.now) c.args.entry (seen at)) c.args.places.now c.loop-at.at-index c.at-item.result [] c.loop-at.sent c.push_sent.new.sent c.loop-at-test.true c.at-item.is c.in_ok-push_sent.ensures c.loop-at.invariant
+    go_more (λ (at : PlaceAt). HasLevel c.args.exchange.now (g.K.KnownFacts.knows c.args.known.now) c.args.entry
+    (seen at)) c.args.places.now c.loop-at.at-index c.at-item.result [] c.loop-at.sent c.push_sent.new.sent
+    c.loop-at-test.true c.at-item.is c.in_ok-push_sent.ensures c.loop-at.invariant
 
 pub returns : goal.returns
 returns g c =
     let P = g.K.KnownFacts.knows c.args.known.now in
     sent_exact c.args.exchange.now P c.args.entry c.args.places.now [] c.loop-at.sent c.requires refl
-    (go_end (λ (at : PlaceAt). HasLevel c.args.exchange.now P c.args.entry (seen at)) c.args.places.now c.loop-at.at-index [] c.loop-at.sent c.loop-at-test.false c.loop-at.invariant)
+    (go_end (λ (at : PlaceAt). HasLevel c.args.exchange.now P c.args.entry (seen at)) c.args.places.now
+    c.loop-at.at-index [] c.loop-at.sent c.loop-at-test.false c.loop-at.invariant)

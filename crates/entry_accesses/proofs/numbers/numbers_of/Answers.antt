@@ -4,10 +4,12 @@ use Rattle.entry_accesses.proofs.Numbering.{variables_small, counts_small, numbe
 use Rattle.entry_accesses.proofs.numbers.numbers_of.Goals as goal
 
 pub first_variables-requires : goal.first_variables-requires
-first_variables-requires c = variables_small c.args.exchange.now c.as_slice.result.now c.kept.ensures (c.as_slice.ensures ∙ ap (λ (v : Parts). v.blocks) c.exchange.view_is)
+first_variables-requires c = variables_small c.args.exchange.now c.as_slice.result.now c.kept.ensures
+    (c.as_slice.ensures ∙ ap (λ (v : Parts). v.blocks) c.exchange.view_is)
 
 pub first_fields-requires : goal.first_fields-requires
-first_fields-requires c = counts_small c.args.exchange.now c.as_slice-2.result.now c.kept.ensures (c.as_slice-2.ensures ∙ ap (λ (v : Parts). v.blocks) c.exchange.view_is)
+first_fields-requires c = counts_small c.args.exchange.now c.as_slice-2.result.now c.kept.ensures
+    (c.as_slice-2.ensures ∙ ap (λ (v : Parts). v.blocks) c.exchange.view_is)
 
 pub returns : goal.returns
 returns c =

@@ -7,7 +7,10 @@ loop-relations-init c = names_begin relation_names c.args.any.now c.args.names.n
 
 pub loop-relations-preserved : goal.loop-relations-preserved
 loop-relations-preserved c =
-    choices_more c.args.any.now c.loop-relations.relations-index c.relations-item.result c.as_slice.result.now c.args.names.now c.loop-relations.names c.push_relations.new.names c.loop-relations-test.true c.relations-item.is c.as_slice.ensures c.in_ok-push_relations.ensures c.loop-relations.invariant
+    choices_more c.args.any.now c.loop-relations.relations-index c.relations-item.result c.as_slice.result.now
+    c.args.names.now c.loop-relations.names c.push_relations.new.names c.loop-relations-test.true
+    c.relations-item.is c.as_slice.ensures c.in_ok-push_relations.ensures c.loop-relations.invariant
 
 pub returns : goal.returns
-returns c = choices_end c.args.any.now c.loop-relations.relations-index c.args.names.now c.loop-relations.names c.loop-relations-test.false c.loop-relations.invariant
+returns c = choices_end c.args.any.now c.loop-relations.relations-index c.args.names.now c.loop-relations.names
+    c.loop-relations-test.false c.loop-relations.invariant

@@ -13,4 +13,5 @@ push_operand-requires-clause-numbered c =
     let held = c.in-Some-Held-Variable.field-0-is in
     let variable = c.in-Some-Held-Variable.field-0-0-is in
     let is : receiver_in (out-StmtKind c.args.kind.now) ≡ Some (receiver.Held (holder.Variable c.in-Some-Held-Variable.variable)) = cc in
-    holder_numbered c.args.here.now.exchange.now c.args.here.now.block c.in-Some-Held-Variable.variable (out-StmtKind c.args.kind.now) c.kept.ensures c.requires.of_block is
+    holder_numbered c.args.here.now.exchange.now c.args.here.now.block c.in-Some-Held-Variable.variable
+    (out-StmtKind c.args.kind.now) c.kept.ensures c.requires.of_block is

@@ -9,11 +9,15 @@ loop-relations-init c = adds_begin condition_listed c.as_slice-relations-items.r
 
 pub loop-relations-preserved : goal.loop-relations-preserved
 loop-relations-preserved c =
-    adds_more condition_listed c.as_slice-relations-items.result.now c.loop-relations.relations-index c.relations-item.result c.args.exprs.now c.loop-relations.exprs c.push_relations.new.exprs (relation_exprs c.relations-item.result) c.loop-relations-test.true c.relations-item.is (λ rest. refl)
+    adds_more condition_listed c.as_slice-relations-items.result.now c.loop-relations.relations-index
+    c.relations-item.result c.args.exprs.now c.loop-relations.exprs c.push_relations.new.exprs
+    (relation_exprs c.relations-item.result) c.loop-relations-test.true c.relations-item.is (λ rest. refl)
     (subst (λ rs. AddsExprs c.loop-relations.exprs c.push_relations.new.exprs (relation_exprs rs)) c.as_slice.ensures c.in_ok-push_relations.ensures)
     c.loop-relations.invariant
 
 pub returns : goal.returns
 returns c =
-    adds_as c.args.exprs.now c.loop-relations.exprs (condition_listed c.as_slice-relations-items.result.now) (condition_listed c.args.cond.now.any) (ap condition_listed c.as_slice-relations-items.ensures)
-    (adds_end condition_listed c.as_slice-relations-items.result.now c.loop-relations.relations-index c.args.exprs.now c.loop-relations.exprs refl c.loop-relations-test.false c.loop-relations.invariant)
+    adds_as c.args.exprs.now c.loop-relations.exprs (condition_listed c.as_slice-relations-items.result.now)
+    (condition_listed c.args.cond.now.any) (ap condition_listed c.as_slice-relations-items.ensures)
+    (adds_end condition_listed c.as_slice-relations-items.result.now c.loop-relations.relations-index c.args.exprs.now
+    c.loop-relations.exprs refl c.loop-relations-test.false c.loop-relations.invariant)

@@ -9,5 +9,6 @@ pub returns : goal.returns
 returns g c =
     let P = g.K.KnownFacts.knows c.args.known.now in
     ok_as c.circles.result (λ b. (b ≡ true) ↔ Circles c.args.table.now c.in_ok-reached.reached) (λ b. (b ≡ true) ↔ GoesRound c.args.exchange.now P c.args.entry)
-    (λ b h. round_is c.args.exchange.now P c.args.entry c.args.table.now c.args.places.now c.in_ok-reached.reached c.kept.ensures c.requires.table c.requires.places c.in_ok-reached.ensures b h)
+    (λ b h. round_is c.args.exchange.now P c.args.entry c.args.table.now c.args.places.now c.in_ok-reached.reached
+    c.kept.ensures c.requires.table c.requires.places c.in_ok-reached.ensures b h)
     c.circles.ensures

@@ -19,4 +19,6 @@ loop-passed-preserved c =
     c.loop-passed.invariant
 
 pub returns : goal.returns
-returns c = circles_end c.args.table.now c.args.reached.now c.loop-passed.passed c.loop-passed.marks (let past = c.loop-passed-test.false in let count = c.len-count.ensures in omega (arith, past, count)) c.loop-passed.invariant
+returns c = circles_end c.args.table.now c.args.reached.now c.loop-passed.passed c.loop-passed.marks
+    (let past = c.loop-passed-test.false in let count = c.len-count.ensures in omega (arith, past, count))
+    c.loop-passed.invariant

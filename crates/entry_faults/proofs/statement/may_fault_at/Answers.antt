@@ -14,7 +14,8 @@ returns g c =
     let e = c.args.entry in
     let p = c.args.at.now.point in
     faults_is x P e c.args.at.now.block p (out-StmtKind c.args.at.now.kind.now) c.as_slice-pointing.result.now c.as_slice-expressions.result.now
-    c.is_seize-seizes.result c.any_divides-divides.result c.any_forlopp-forlopp.result c.in_ok-misses.misses c.in_ok-lost.lost c.in_ok-wide.wide c.in_ok-waits.waits c.in_ok-other.other c.in_ok-deep.deep
+    c.is_seize-seizes.result c.any_divides-divides.result c.any_forlopp-forlopp.result c.in_ok-misses.misses
+    c.in_ok-lost.lost c.in_ok-wide.wide c.in_ok-waits.waits c.in_ok-other.other c.in_ok-deep.deep
     (record {
       exprs_are = ap (map expr_seen) c.as_slice-expressions.ensures ∙ c.in_ok-exprs.ensures;
       pointers_are = c.as_slice-pointing.ensures ∙ c.in_ok-pointers.ensures;

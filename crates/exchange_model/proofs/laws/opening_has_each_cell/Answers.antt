@@ -1,4 +1,5 @@
-use Rattle.exchange_model.proofs.Openings.{length-opening_store, opening_store-variable, opening_store-field, opening_store-mark}
+use Rattle.exchange_model.proofs.Openings.{length-opening_store, opening_store-variable}
+use Rattle.exchange_model.proofs.Openings.{opening_store-field, opening_store-mark}
 use Rattle.exchange_model.proofs.laws.opening_has_each_cell.Goals as goal
 
 pub returns-clause-each : goal.returns-clause-each

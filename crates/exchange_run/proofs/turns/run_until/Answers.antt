@@ -2,12 +2,14 @@ use Rattle.std.proofs.Common.{◌≡◌, None, rules}
 use Rattle.std.proofs.lemmas.Grind.{common_steps}
 use Rattle.source_meaning.specs.SingleRun.{ending_at}
 use Rattle.exchange_run.proofs.Resting.{goes_rests}
-use Rattle.exchange_run.proofs.Turning.{goes_begin, goes_fewer, goes_more, goes_over, goes_told, goes_turn}
+use Rattle.exchange_run.proofs.Turning.{goes_begin, goes_fewer, goes_more, goes_over, goes_told}
+use Rattle.exchange_run.proofs.Turning.{goes_turn}
 use Rattle.exchange_run.proofs.turns.run_until.Goals as goal
 
 pub jobs-init : goal.jobs-init
 jobs-init g c = record {
-  goes = goes_begin g.W.Watcher.told c.args.exchange.now c.args.run.books c.let_arrive.new.books c.args.run.words c.args.watcher.now c.requires.run.nobody c.in_ok-let_arrive.ensures;
+  goes = goes_begin g.W.Watcher.told c.args.exchange.now c.args.run.books c.let_arrive.new.books c.args.run.words
+      c.args.watcher.now c.requires.run.nobody c.in_ok-let_arrive.ensures;
   runs = c.requires.runner;
 }
 

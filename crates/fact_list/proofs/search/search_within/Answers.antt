@@ -8,10 +8,13 @@ pub between-requires-clause-within : goal.between-requires-clause-within
 between-requires-clause-within c = c.requires.above.there
 
 pub search-span-requires : goal.search-span-requires
-search-span-requires c = part_rises c.args.facts.now c.args.fact c.args.hint c.between.result.now c.requires.below c.requires.above c.between.ensures c.requires.rising
+search-span-requires c = part_rises c.args.facts.now c.args.fact c.args.hint c.between.result.now c.requires.below
+    c.requires.above c.between.ensures c.requires.rising
 
 pub shifted-requires-clause-within : goal.shifted-requires-clause-within
-shifted-requires-clause-within c = part_fits c.args.facts.now c.args.fact c.args.hint c.between.result.now c.requires.below c.requires.above c.between.ensures c.search-span.result c.search-span.ensures
+shifted-requires-clause-within c = part_fits c.args.facts.now c.args.fact c.args.hint c.between.result.now
+    c.requires.below c.requires.above c.between.ensures c.search-span.result c.search-span.ensures
 
 pub returns : goal.returns
-returns c = span_within c.args.facts.now c.args.fact c.args.hint c.between.result.now c.requires.below c.requires.above c.between.ensures c.search-span.result c.shifted.result c.search-span.ensures c.shifted.ensures
+returns c = span_within c.args.facts.now c.args.fact c.args.hint c.between.result.now c.requires.below c.requires.above
+    c.between.ensures c.search-span.result c.shifted.result c.search-span.ensures c.shifted.ensures

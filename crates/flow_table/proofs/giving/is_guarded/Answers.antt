@@ -9,4 +9,5 @@ pub returns-in_ok-deeper-in-Calls : goal.returns-in_ok-deeper-in-Calls
 returns-in_ok-deeper-in-Calls g c =
     let P = g.K.KnownFacts.knows c.args.known.now in
     let are = subst (AreValues (SourceGives P c.args.entry c.args.from Deeper)) (sym c.as_slice.ensures) c.in_ok-deeper-in-Calls.ensures in
-    guard_calls P c.args.entry c.args.from c.args.to c.args.how.now c.in-Calls.values c.in-Calls.answer c.as_slice.result.now (not c.is_empty.result) c.in-Calls.is are (ap not c.is_empty.ensures)
+    guard_calls P c.args.entry c.args.from c.args.to c.args.how.now c.in-Calls.values c.in-Calls.answer
+    c.as_slice.result.now (not c.is_empty.result) c.in-Calls.is are (ap not c.is_empty.ensures)

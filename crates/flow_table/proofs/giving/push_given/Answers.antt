@@ -10,5 +10,6 @@ returns g c =
     on_ok_as c.push_facts.result
     (c.push_facts.new.facts ≡ c.args.facts.now ++ map (fact c.args.entry c.args.to c.args.slot) c.as_slice.result.now)
     (HasGiven c.args.facts.now c.push_facts.new.facts (SlotGives P c.args.entry c.args.from c.args.source c.args.to c.args.slot))
-    (λ is. slot_given P c.args.entry c.args.from c.args.source c.args.to c.args.slot c.in_ok-values.values c.as_slice.result.now c.args.facts.now c.push_facts.new.facts c.in_ok-values.ensures c.as_slice.ensures is)
+    (λ is. slot_given P c.args.entry c.args.from c.args.source c.args.to c.args.slot c.in_ok-values.values
+    c.as_slice.result.now c.args.facts.now c.push_facts.new.facts c.in_ok-values.ensures c.as_slice.ensures is)
     c.push_facts.ensures

@@ -11,4 +11,6 @@ pub returns : goal.returns
 returns c =
     let slots = c.requires.slots in
     let x = c.args.exchange.now in
-    row_is x (seen c.args.at.now) _ c.in_ok-ways.ways c.kept.ensures c.requires.place c.in_ok-ways.ensures (slots.temps ∙ ap (temp_count x) c.requires.block) (slots.given ∙ ap (given_count x) c.requires.block) c.answered_of.ensures refl
+    row_is x (seen c.args.at.now) _ c.in_ok-ways.ways c.kept.ensures c.requires.place c.in_ok-ways.ensures
+    (slots.temps ∙ ap (temp_count x) c.requires.block) (slots.given ∙ ap (given_count x) c.requires.block)
+    c.answered_of.ensures refl

@@ -12,4 +12,5 @@ loop-number-preserved c =
     let entered : c.add_entries.new.out ≡ c.loop-number.entries ++ entries_in c.args.signals.now c.loop-number.number k.body = search (rules, common_steps) in
     let pointed : c.add_points.new.out ≡ c.loop-number.points ++ body_points c.loop-number.number k.body = search (rules, common_steps) in
     let size : c.cells-cells.result ≡ block_cells k = search (rules, common_steps) in
-    all_step c.args.signals.now c.args.blocks.now c.loop-number.number k _ _ _ _ _ _ c.loop-number-test.true c.index-blocks-number.is entered pointed size c.loop-number.invariant
+    all_step c.args.signals.now c.args.blocks.now c.loop-number.number k _ _ _ _ _ _ c.loop-number-test.true
+    c.index-blocks-number.is entered pointed size c.loop-number.invariant

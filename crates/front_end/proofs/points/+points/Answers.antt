@@ -9,7 +9,8 @@ pub add_kind-returns-in_ok-add_points-in-If-2 : goal.add_kind-returns-in_ok-add_
 add_kind-returns-in_ok-add_points-in-If-2 t c = kind_added _ _ _ _ _ (ap out-StmtKind c.in-If.is ∙ kind.outs-If _ _ _) (search (rules, common_steps, two_added))
 
 pub add_kind-returns-in_ok-add_points-in-Case : goal.add_kind-returns-in_ok-add_points-in-Case
-add_kind-returns-in_ok-add_points-in-Case t c = kind_added _ _ _ _ _ (ap out-StmtKind c.in-Case.is ∙ kind.outs-Case _ _ _) (search (rules, common_steps, two_added))
+add_kind-returns-in_ok-add_points-in-Case t c = kind_added _ _ _ _ _
+    (ap out-StmtKind c.in-Case.is ∙ kind.outs-Case _ _ _) (search (rules, common_steps, two_added))
 
 pub add_kind-returns-in_ok-add_points-in-On : goal.add_kind-returns-in_ok-add_points-in-On
 add_kind-returns-in_ok-add_points-in-On t c = kind_added _ _ _ _ _ (ap out-StmtKind c.in-On.is ∙ kind.outs-On _ _ _ _) (search (rules, common_steps))

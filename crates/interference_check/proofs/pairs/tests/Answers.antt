@@ -10,5 +10,11 @@ pub returns-clause-exact : goal.returns-clause-exact
 returns-clause-exact c =
     IfOk-weaker c.tests_of.result (λ tests. (t : Test) → Contains tests t ↔ IsTest c.summary.result.now c.summary-2.result.now t)
     (λ tests. OfPair c.args.checked.now c.args.first c.args.later (λ s t. (test : Test) → Contains tests test ↔ IsTest s t test))
-    (λ tests exact. record { one = c.summary.result.now; other = c.summary-2.result.now; of_first = c.summary.ensures.it; of_later = c.summary-2.ensures.it; holds = exact })
+    (λ tests exact. record {
+      one = c.summary.result.now;
+      other = c.summary-2.result.now;
+      of_first = c.summary.ensures.it;
+      of_later = c.summary-2.ensures.it;
+      holds = exact;
+    })
     c.tests_of.ensures.exact

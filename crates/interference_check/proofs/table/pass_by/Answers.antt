@@ -6,5 +6,6 @@ returns-in-Never c = never_passes c.args.tests.now c.args.pair c.args.first.now 
 
 pub returns-in-Asks : goal.returns-in-Asks
 returns-in-Asks c =
-    asks_passes c.args.tests.now c.between-own.result.now c.args.pair c.in-Asks.from c.in-Asks.to c.args.first.now c.args.later.now c.are_apart.result c.all_hold.result
+    asks_passes c.args.tests.now c.between-own.result.now c.args.pair c.in-Asks.from c.in-Asks.to c.args.first.now
+    c.args.later.now c.are_apart.result c.all_hold.result
     c.in-Asks.is c.between-own.ensures c.are_apart.ensures c.all_hold.ensures

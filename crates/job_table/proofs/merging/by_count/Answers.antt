@@ -10,5 +10,6 @@ returns-in-Ok c =
     let before = c.into_vec-items.result.items in
     let after = c.sort_by_key.new.self.items in
     c.from_vec.ensures
-    ∙ by_count-sorted before after (IsNonDecreasingBy-from_sort count_of after (c.in-Ok.ensures.sorted count_of keys)) (c.sort_by_key.ensures.stable count_of keys)
+    ∙ by_count-sorted before after (IsNonDecreasingBy-from_sort count_of after (c.in-Ok.ensures.sorted count_of keys))
+    (c.sort_by_key.ensures.stable count_of keys)
     ∙ ap by_count c.into_vec-items.ensures

@@ -16,7 +16,10 @@ pub give_value-requires-clause-number : goal.give_value-requires-clause-number
 give_value-requires-clause-number c = c.requires.number _ (item_there c.args.values.now c.loop-value.value-index _ c.loop-value-test.true)
 
 pub loop-value-preserved : goal.loop-value-preserved
-loop-value-preserved c = values_more c.args.rows.now c.loop-value.rows c.give_value.new.rows c.args.entry c.args.to c.args.slot c.args.values.now c.loop-value.value-index _ c.loop-value.grown c.in_ok-new.new c.loop-value-test.true c.in_ok-new.ensures c.loop-value.invariant
+loop-value-preserved c = values_more c.args.rows.now c.loop-value.rows c.give_value.new.rows c.args.entry c.args.to
+    c.args.slot c.args.values.now c.loop-value.value-index _ c.loop-value.grown c.in_ok-new.new c.loop-value-test.true
+    c.in_ok-new.ensures c.loop-value.invariant
 
 pub returns : goal.returns
-returns c = values_end c.args.rows.now c.loop-value.rows c.args.entry c.args.to c.args.slot c.args.values.now c.loop-value.value-index c.loop-value.grown c.loop-value-test.false c.loop-value.invariant
+returns c = values_end c.args.rows.now c.loop-value.rows c.args.entry c.args.to c.args.slot c.args.values.now
+    c.loop-value.value-index c.loop-value.grown c.loop-value-test.false c.loop-value.invariant

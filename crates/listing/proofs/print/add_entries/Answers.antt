@@ -5,4 +5,6 @@ use Rattle.listing.proofs.print.add_entries.Goals as goal
 
 pub returns-clause-numbers : goal.returns-clause-numbers
 returns-clause-numbers c =
-    All-from_get_or IsNumber c.args.entries.now 0 (λ i within. (let fits : Fits w32 (get_or c.args.entries.now i 0) = c.type_inv.entries i in omega (arith, fits)))
+    All-from_get_or IsNumber c.args.entries.now 0
+    (λ i within. (let fits : Fits w32 (get_or c.args.entries.now i 0) = c.type_inv.entries i in omega
+    (arith, fits)))

@@ -11,7 +11,9 @@ run_to_end-requires-clause-begins c =
 
 pub returns-clause-ran : goal.returns-clause-ran
 returns-clause-ran c =
-    subst (HasRunAlone c.args.exchange.now c.args.code.now c.args.start.now c.args.root.1.values c.run_to_end.new.run) (ap (λ (r : RootView). r.1) (sym c.into_root.ensures))
+    subst (HasRunAlone c.args.exchange.now c.args.code.now c.args.start.now c.args.root.1.values c.run_to_end.new.run)
+    (ap (λ (r : RootView). r.1) (sym c.into_root.ensures))
     (has_run_alone c.args.exchange.now c.args.code.now c.kept.ensures c.args.start.now c.args.root.1 c.requires.bare c.requires.start
-    c.args.run.now c.run_to_end.new.run c.new-words.result.root.1 c.run_to_end.new.words.root.1 _ _ (ap (λ (r : RootView). r.1) c.new-words.ensures.root) c.requires.run
+    c.args.run.now c.run_to_end.new.run c.new-words.result.root.1 c.run_to_end.new.words.root.1 _ _
+    (ap (λ (r : RootView). r.1) c.new-words.ensures.root) c.requires.run
     c.run_to_end.ensures.end c.run_to_end.ensures.meaning (sym c.run_to_end.ensures.like.1))

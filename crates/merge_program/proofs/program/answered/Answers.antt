@@ -6,11 +6,15 @@ use Rattle.merge_program.proofs.program.answered.Goals as goal
 
 pub returns-in-len3-clause-answers : goal.returns-in-len3-clause-answers
 returns-in-len3-clause-answers g c =
-    answers_three _ c.args.words.now c.exchange-item.result c.signals-item.result c.table-item.result _ _ _ c.in-len3.len_at_least c.in-len3.len_below c.exchange-item.is c.signals-item.is c.table-item.is c.merge_files.ensures.comes
+    answers_three _ c.args.words.now c.exchange-item.result c.signals-item.result c.table-item.result _ _ _
+    c.in-len3.len_at_least c.in-len3.len_below c.exchange-item.is c.signals-item.is c.table-item.is
+    c.merge_files.ensures.comes
 
 pub returns-in-len3-clause-made : goal.returns-in-len3-clause-made
 returns-in-len3-clause-made g c =
-    makes_three _ c.args.words.now c.exchange-item.result c.signals-item.result c.table-item.result _ _ _ c.in-len3.len_at_least c.in-len3.len_below c.exchange-item.is c.signals-item.is c.table-item.is c.merge_files.ensures.comes c.merge_files.ensures.ending
+    makes_three _ c.args.words.now c.exchange-item.result c.signals-item.result c.table-item.result _ _ _
+    c.in-len3.len_at_least c.in-len3.len_below c.exchange-item.is c.signals-item.is c.table-item.is
+    c.merge_files.ensures.comes c.merge_files.ensures.ending
 
 pub returns-in_default-clause-answers : goal.returns-in_default-clause-answers
 returns-in_default-clause-answers g c =

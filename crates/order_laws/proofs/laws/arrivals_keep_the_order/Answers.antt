@@ -1,4 +1,5 @@
-use Rattle.order_laws.proofs.Arriving.{arrivals_idle, arrivals_keep, arrivals_quiet, arrivals_settle, arrivals_stopped}
+use Rattle.order_laws.proofs.Arriving.{arrivals_idle, arrivals_keep, arrivals_quiet}
+use Rattle.order_laws.proofs.Arriving.{arrivals_settle, arrivals_stopped}
 use Rattle.order_laws.proofs.laws.arrivals_keep_the_order.Goals as goal
 
 pub returns-clause-quiet : goal.returns-clause-quiet

@@ -1,4 +1,5 @@
-use Rattle.order_laws.proofs.Following.{ahead_issue, ahead_live, ahead_none, ahead_retire, ahead_store, ahead_words, turn_store}
+use Rattle.order_laws.proofs.Following.{ahead_issue, ahead_live, ahead_none, ahead_retire}
+use Rattle.order_laws.proofs.Following.{ahead_store, ahead_words, turn_store}
 use Rattle.order_laws.proofs.laws.books_follow.Goals as goal
 
 pub returns-clause-none : goal.returns-clause-none

@@ -3,7 +3,8 @@ use Rattle.order_laws.proofs.Releasing.{spares}
 use Rattle.order_laws.proofs.laws.picks_stay.Goals as goal
 
 pub returns-clause-lets : goal.returns-clause-lets
-returns-clause-lets c = λ start done later behind goes other. record { sends = behind; outcome = spares later.forlopp start.job.forlopp done.outcome goes other }
+returns-clause-lets c = λ start done later behind goes other. record
+    { sends = behind; outcome = spares later.forlopp start.job.forlopp done.outcome goes other }
 
 pub returns-clause-one : goal.returns-clause-one
 returns-clause-one c = retire_stays

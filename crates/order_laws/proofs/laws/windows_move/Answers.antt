@@ -1,4 +1,5 @@
-use Rattle.order_laws.proofs.Moving.{window_books, window_fits, window_grows, window_none, window_retired}
+use Rattle.order_laws.proofs.Moving.{window_books, window_fits, window_grows, window_none}
+use Rattle.order_laws.proofs.Moving.{window_retired}
 use Rattle.order_laws.proofs.laws.windows_move.Goals as goal
 
 pub returns-clause-none : goal.returns-clause-none

@@ -1,6 +1,7 @@
 use Rattle.source_meaning.proofs.Retiring.{turn_valid}
 use Rattle.order_laws.proofs.Moving.{window_first, window_quiet}
-use Rattle.order_laws.proofs.Turning.{after_later, after_more, turns_valid, window_limit, window_turn}
+use Rattle.order_laws.proofs.Turning.{after_later, after_more, turns_valid, window_limit}
+use Rattle.order_laws.proofs.Turning.{window_turn}
 use Rattle.order_laws.proofs.laws.windows_run.Goals as goal
 
 pub returns-clause-turn : goal.returns-clause-turn

@@ -9,7 +9,8 @@ loop-place-init c = (omega arith, of_none c.args.others.now)
 pub loop-place-preserved : goal.loop-place-preserved
 loop-place-preserved c = (
   c.next_sooner-place.ensures.there,
-  least_more c.args.ones.now c.args.others.now c.loop-place.place c.next_sooner-place.result c.at.result c.loop-place.least c.first_with.result c.sooner-least.result
+  least_more c.args.ones.now c.args.others.now c.loop-place.place c.next_sooner-place.result c.at.result
+      c.loop-place.least c.first_with.result c.sooner-least.result
       c.at.ensures c.loop-place.invariant.1 c.first_with.ensures c.sooner-least.ensures c.next_sooner-place.ensures,
 )
 

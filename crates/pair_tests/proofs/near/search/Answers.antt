@@ -7,5 +7,6 @@ use Rattle.pair_tests.proofs.near.search.Goals as goal
 pub returns : goal.returns
 returns c = record {
   there = c.partition_point.ensures.bound;
-  parts = IsPartitionPoint-from_clause (within c.args.bound) _ _ c.partition_point.ensures.partitioned (parted c.args.bound _ c.requires) (λ a r q k. search rules);
+  parts = IsPartitionPoint-from_clause (within c.args.bound) _ _ c.partition_point.ensures.partitioned
+      (parted c.args.bound _ c.requires) (λ a r q k. search rules);
 }

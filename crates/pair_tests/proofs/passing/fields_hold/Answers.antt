@@ -17,7 +17,8 @@ pub loop-place-smaller : goal.loop-place-smaller
 loop-place-smaller c = (let up = c.next_near-place.ensures.up in let lt = c.loop-place-test.true in omega (arith, up, lt))
 
 pub returns-then-not-hold_with : goal.returns-then-not-hold_with
-returns-then-not-hold_with c = hold_fails c.args.a.now c.args.b.now c.args.ones.now c.args.others.now c.loop-place.place c.at.result c.hold_with.result c.at.ensures c.hold_with.ensures c.if-not-hold_with.true
+returns-then-not-hold_with c = hold_fails c.args.a.now c.args.b.now c.args.ones.now c.args.others.now c.loop-place.place
+    c.at.result c.hold_with.result c.at.ensures c.hold_with.ensures c.if-not-hold_with.true
 
 pub returns : goal.returns
 returns c = all_end c.args.a.now c.args.b.now c.args.ones.now c.args.others.now c.loop-place.place c.loop-place-test.false c.loop-place.invariant.1

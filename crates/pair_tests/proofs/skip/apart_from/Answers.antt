@@ -2,4 +2,7 @@ use Rattle.pair_tests.proofs.Skipping.{apart_passed}
 use Rattle.pair_tests.proofs.skip.apart_from.Goals as goal
 
 pub returns : goal.returns
-returns c = apart_passed c.args.ones.now c.args.others.now c.args.one c.lowest.result c.next_met.result c.args.writes c.access_at-next.result c.args.place c.count_within-from.result c.passed.result c.requires.ones c.requires.others c.requires.at c.lowest.ensures c.count_within-from.ensures c.access_at-next.ensures c.next_met.ensures c.passed.ensures
+returns c = apart_passed c.args.ones.now c.args.others.now c.args.one c.lowest.result c.next_met.result c.args.writes
+    c.access_at-next.result c.args.place c.count_within-from.result c.passed.result c.requires.ones c.requires.others
+    c.requires.at c.lowest.ensures c.count_within-from.ensures c.access_at-next.ensures c.next_met.ensures
+    c.passed.ensures

@@ -9,5 +9,7 @@ returns-in_default g c = left_bare g.B.Naming.store c.jobs.root c.jobs.window.lo
 
 pub jobs-preserved : goal.jobs-preserved
 jobs-preserved g c =
-    left_back g.B.Naming.exchange g.B.Naming.code g.B.Naming.store c.jobs.root c.take_back.new.root c.in-Some.oldest.flight c.pop.new.self.loans c.finish-seat.result.0 c.finish-seat.result.1.value c.finish-seat.ensures c.take_back.ensures
+    left_back g.B.Naming.exchange g.B.Naming.code g.B.Naming.store c.jobs.root c.take_back.new.root
+    c.in-Some.oldest.flight c.pop.new.self.loans c.finish-seat.result.0 c.finish-seat.result.1.value
+    c.finish-seat.ensures c.take_back.ensures
     (subst (IsLeft g.B.Naming.store c.jobs.root) (ap (λ (v : View). v.loans) c.in-Some.ensures.0) c.jobs.invariant)

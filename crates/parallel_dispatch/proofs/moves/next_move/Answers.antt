@@ -8,10 +8,13 @@ use Rattle.parallel_dispatch.proofs.Choosing.{may_issue_alone, may_issue_beside}
 use Rattle.parallel_dispatch.proofs.moves.next_move.Goals as goal
 
 pub blockers-behind-requires-clause-window : goal.blockers-behind-requires-clause-window
-blockers-behind-requires-clause-window g c = subst (λ k. AllByRecursion (HasSummary k) (starts_of c.args.window.now.loans)) (sym c.asking-tests.ensures) c.requires.window
+blockers-behind-requires-clause-window g c = subst
+    (λ k. AllByRecursion (HasSummary k) (starts_of c.args.window.now.loans)) (sym c.asking-tests.ensures)
+    c.requires.window
 
 pub blockers-behind-requires-clause-later : goal.blockers-behind-requires-clause-later
-blockers-behind-requires-clause-later g c = subst (λ k. HasSummary k c.in-Some.start) (sym c.asking-tests.ensures) (c.requires.next c.in-Some.start (sym c.in-Some.is ∙ c.peek-next.ensures))
+blockers-behind-requires-clause-later g c = subst (λ k. HasSummary k c.in-Some.start) (sym c.asking-tests.ensures)
+    (c.requires.next c.in-Some.start (sym c.in-Some.is ∙ c.peek-next.ensures))
 
 pub returns-then-may_fly_first-clause-may : goal.returns-then-may_fly_first-clause-may
 returns-then-may_fly_first-clause-may g c =

@@ -19,9 +19,13 @@ turn_alone-turn-requires-clause-may g c =
 pub returns-in-Ok-turn-clause-turned : goal.returns-in-Ok-turn-clause-turned
 returns-in-Ok-turn-clause-turned g c =
     let here = c.requires.suits in
-    let turned : HasTurnedAlone g.B.Naming.exchange g.B.Naming.code c.args.books.now c.args.root.1 c.turn_alone-turn.new.books c.in-Ok-turn.alone.root.1 c.in-Ok-turn.alone.steps =
-    subst (λ (z : Exchange × Code). HasTurnedAlone z.0 z.1 c.args.books.now c.args.root.1 c.turn_alone-turn.new.books c.in-Ok-turn.alone.root.1 c.in-Ok-turn.alone.steps)
+    let turned : HasTurnedAlone g.B.Naming.exchange g.B.Naming.code c.args.books.now c.args.root.1
+    c.turn_alone-turn.new.books c.in-Ok-turn.alone.root.1 c.in-Ok-turn.alone.steps =
+    subst (λ (z : Exchange × Code). HasTurnedAlone z.0 z.1 c.args.books.now c.args.root.1 c.turn_alone-turn.new.books
+    c.in-Ok-turn.alone.root.1 c.in-Ok-turn.alone.steps)
     (λ i. (here.exchange i, here.code i)) c.in-Ok-turn.ensures.turned in
     turned_alone g.B.Naming.exchange g.B.Course.kept g.B.Naming.code c.requires.suits.set.exchange c.args.books.now c.args.root.1 c.requires.goes_on
-    (c.requires.beside.flying.1.running ∙ ap length c.requires.next.nobody) c.turn_alone-turn.new.books (record { root = c.in-Ok-turn.alone.root; steps = c.in-Ok-turn.alone.steps }) turned
-    g.B.Naming.store c.args.window.now c.keep_run.new.self c.requires.next (c.keep_run.ensures ∙ c.idle_run.ensures) (c.in-Ok-turn.ensures.home ∙ c.requires.beside.home) c.requires.beside.counted
+    (c.requires.beside.flying.1.running ∙ ap length c.requires.next.nobody) c.turn_alone-turn.new.books
+    (record { root = c.in-Ok-turn.alone.root; steps = c.in-Ok-turn.alone.steps }) turned
+    g.B.Naming.store c.args.window.now c.keep_run.new.self c.requires.next (c.keep_run.ensures ∙ c.idle_run.ensures)
+    (c.in-Ok-turn.ensures.home ∙ c.requires.beside.home) c.requires.beside.counted

@@ -1,4 +1,5 @@
--- `Few` as a list through which a type may hold itself: how it splits into its items, and where they stand.
+-- `Few` as a list through which a type may hold itself: how it splits into its items, and where
+-- they stand.
 use mathlib.Core.Path.{◌≡◌, refl, sym}
 use mathlib.Core.List.{List, []}
 use mathlib.Core.Logic.{◌⊎◌, inl, inr}
@@ -36,7 +37,8 @@ the_empty = []
 abbrev pub the_items : (X : Type 0) → List X → List X
 the_items X xs = xs
 
-pub the_items_listed : (X : Type 0) (xs : List X) → listed _ (children (the_former this) X xs) ≡ the_items X xs
+pub the_items_listed : (X : Type 0) (xs : List X)
+    → listed _ (children (the_former this) X xs) ≡ the_items X xs
 the_items_listed X xs = list-listed X xs
 
 -- nothing, or a list
@@ -58,7 +60,8 @@ module _ {X : Type 0} where
   split-join (inr xs) = refl
 
 abbrev lists : Former {0}
-lists = via (or (const (Unit {0})) (list this)) (λ X. Option (List X)) (λ X. split) (λ X. join) (λ X. join-split) (λ X. split-join)
+lists = via (or (const (Unit {0})) (list this)) (λ X. Option (List X)) (λ X. split) (λ X. join)
+    (λ X. join-split) (λ X. split-join)
 
 -- the one field
 abbrev field : Former {0}
@@ -75,7 +78,8 @@ module _ (X : Type 0) where
   abbrev holding : Option (List X) → Inside X
   holding o = record { items = o }
 
-  keeps : (o : Option (List X)) → held (the_former this) X (view X (holding o)) ≡ held field X (holding o)
+  keeps : (o : Option (List X)) → held (the_former this) X (view X (holding o))
+      ≡ held field X (holding o)
   keeps None = refl
   keeps (Some xs) = refl
 
@@ -87,28 +91,47 @@ module _ (X : Type 0) where
     inside_mapped : (u : Inside X) → (field.map X Y h u).items ≡ option_mapped h u.items
     inside_mapped u = over_option u.items
 
-    natural : (o : Option (List X)) → view Y (field.map X Y h (holding o)) ≡ (the_former this).map X Y h (view X (holding o))
+    natural : (o : Option (List X)) → view Y (field.map X Y h (holding o))
+        ≡ (the_former this).map X Y h (view X (holding o))
     natural None = refl
     natural (Some xs) = refl
 
 module _ (R S : RattleType) (h : R.Denot → S.Denot) where
   variant : (o : Option (List R.Denot))
       → (option.enum (boxed.the_row (seq.the_row S))).as_values (option_mapped h o)
-      ≡ eachs (option.enum (boxed.the_row (seq.the_row R))).parts (option.enum (boxed.the_row (seq.the_row S))).parts (tt, ((mapped h, tt), tt))
+      ≡ eachs (option.enum (boxed.the_row (seq.the_row R))).parts
+      (option.enum (boxed.the_row (seq.the_row S))).parts (tt, ((mapped h, tt), tt))
       ((option.enum (boxed.the_row (seq.the_row R))).as_values o)
   variant None = refl
   variant (Some xs) = refl
 
-  option_places : Alike R S h → Alike (option.the_row (boxed.the_row (seq.the_row R))) (option.the_row (boxed.the_row (seq.the_row S))) (option_mapped h)
-  option_places alike = enum_places (option.enum (boxed.the_row (seq.the_row R))) (option.enum (boxed.the_row (seq.the_row S)))
-      (tt, ((mapped h, tt), tt)) (option_mapped h) variant refl
-      (tt, ((laid _ _ _ (place.the_places (seq.the_row R) (seq.the_row S) (mapped h) (sequence.the_places R S h alike)), tt), tt))
+  option_places : Alike R S h → Alike (option.the_row (boxed.the_row (seq.the_row R)))
+      (option.the_row (boxed.the_row (seq.the_row S))) (option_mapped h)
+  option_places alike = enum_places (option.enum (boxed.the_row (seq.the_row R)))
+      (option.enum (boxed.the_row (seq.the_row S)))
+      (tt, ((mapped h, tt), tt)) (option_mapped h) variant refl (
+        tt,
+        (
+          (
+            laid _ _ _ (place.the_places (seq.the_row R) (seq.the_row S) (mapped h)
+                (sequence.the_places R S h alike)),
+            tt,
+          ),
+          tt,
+        ),
+      )
 
-  pub the_places : Alike R S h → Alike (few.the_row R) (few.the_row S) ((the_former this).map R.Denot S.Denot h)
-  the_places alike = view_places field (list this) view (λ X Y k u. natural X Y k u.items) (λ X u. keeps X u.items) R.Denot S.Denot h (few.the_row R).coded (few.the_row S).coded
-      (invariant R.Denot) (invariant S.Denot) (λ u p q. refl) (λ u p q. refl) (λ u e. tt) (λ u e. tt)
+  pub the_places : Alike R S h → Alike (few.the_row R) (few.the_row S)
+      ((the_former this).map R.Denot S.Denot h)
+  the_places alike = view_places field (list this) view (λ X Y k u. natural X Y k u.items)
+      (λ X u. keeps X u.items) R.Denot S.Denot h (few.the_row R).coded (few.the_row S).coded
+      (invariant R.Denot) (invariant S.Denot) (λ u p q. refl) (λ u p q. refl) (λ u e. tt)
+      (λ u e. tt)
       (over (inside.the_row R)) (over (inside.the_row S))
-      (struct_places (inside.the_type R) (inside.the_type S) (option_mapped h, tt) _ (λ d i. (inside_mapped R.Denot S.Denot h d i, tt)) refl (laid _ _ _ (option_places alike), tt))
+      (struct_places (inside.the_type R) (inside.the_type S) (option_mapped h, tt) _
+      (λ d i. (inside_mapped R.Denot S.Denot h d i, tt)) refl
+      (laid _ _ _ (option_places alike), tt))
 
-  pub the_codes_placed : Recodes R S h → Recodes (few.the_row R) (few.the_row S) ((the_former this).map R.Denot S.Denot h)
+  pub the_codes_placed : Recodes R S h → Recodes (few.the_row R) (few.the_row S)
+      ((the_former this).map R.Denot S.Denot h)
   the_codes_placed recodes d = sym (code_map R.coded.code S.coded.code h (λ x. sym (recodes x)) d)

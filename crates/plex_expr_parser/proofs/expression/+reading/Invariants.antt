@@ -1,7 +1,8 @@
 use Rattle.std.proofs.Common.{◌≡◌, ◌+◌, ◌*◌, length}
 use Rattle.plex_lexer.specs.Cursors.{ahead}
 use Rattle.token_grammar.specs.Reading.{with_front, many}
-use Rattle.plex_expr_parser.specs.Readers.{ADD, added_by, MULTIPLY, multiplied_by, factor_read, term_read}
+use Rattle.plex_expr_parser.specs.Readers.{ADD, added_by, MULTIPLY, multiplied_by, factor_read}
+use Rattle.plex_expr_parser.specs.Readers.{term_read}
 use Rattle.plex_expr_parser.proofs.expression.+reading.Given as goal
 
 abbrev pub decreases-bracket : goal.decreases-bracket
@@ -38,13 +39,16 @@ abbrev pub decreases-factor_kind : goal.decreases-factor_kind
 decreases-factor_kind l = 11 * l.room
 
 abbrev pub invariant-added_list-terms : goal.invariant-added_list-terms
-invariant-added_list-terms l = with_front l.list (many ADD (added_by (term_read l.room)) (ahead l.left)) ≡ many ADD (added_by (term_read l.room)) (ahead l.tokens)
+invariant-added_list-terms l = with_front l.list (many ADD (added_by (term_read l.room)) (ahead l.left))
+    ≡ many ADD (added_by (term_read l.room)) (ahead l.tokens)
 
 abbrev pub decreases-added_list-terms : goal.decreases-added_list-terms
 decreases-added_list-terms l = length (ahead l.left)
 
 abbrev pub invariant-multiplied_list-factors : goal.invariant-multiplied_list-factors
-invariant-multiplied_list-factors l = with_front l.list (many MULTIPLY (multiplied_by (factor_read l.room)) (ahead l.left)) ≡ many MULTIPLY (multiplied_by (factor_read l.room)) (ahead l.tokens)
+invariant-multiplied_list-factors l = with_front l.list
+    (many MULTIPLY (multiplied_by (factor_read l.room)) (ahead l.left))
+    ≡ many MULTIPLY (multiplied_by (factor_read l.room)) (ahead l.tokens)
 
 abbrev pub decreases-multiplied_list-factors : goal.decreases-multiplied_list-factors
 decreases-multiplied_list-factors l = length (ahead l.left)

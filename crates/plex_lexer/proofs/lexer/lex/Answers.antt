@@ -1,4 +1,5 @@
-use Rattle.std.proofs.Common.{◌≡◌, ℕ, ◌-◌, ◌<◌, ◌++◌, ◌∷◌, [], List, ap, arith, length, length-append, drop, sym, ◌∙◌, refl}
+use Rattle.std.proofs.Common.{◌≡◌, ℕ, ◌-◌, ◌<◌, ◌++◌, ◌∷◌, [], List, ap, arith, length}
+use Rattle.std.proofs.Common.{length-append, drop, sym, ◌∙◌, refl}
 use Rattle.plex_lexer.specs.declared.spot.TheConstants.{OFFSETS}
 use Rattle.plex_lexer.specs.declared.token.Token.{Token}
 use Rattle.plex_lexer.specs.Lexed.{tokens_of}
@@ -19,7 +20,9 @@ bytes-init c = record {
 
 pub returns-in-Err-clause-tokens : goal.returns-in-Err-clause-tokens
 returns-in-Err-clause-tokens c = tells_err c.in-Err.fault _
-    (token_bad (all_shown c.args.text.now c.bytes.spots) (length c.args.text.now) c.bytes.line c.in-Some.b c.bytes.rest.now c.in-Some.after.now c.in-Err.fault (length c.args.text.now - length c.bytes.rest.now) (tokens_of c.args.text.now)
+    (token_bad (all_shown c.args.text.now c.bytes.spots) (length c.args.text.now) c.bytes.line c.in-Some.b
+    c.bytes.rest.now c.in-Some.after.now c.in-Err.fault (length c.args.text.now - length c.bytes.rest.now)
+    (tokens_of c.args.text.now)
     c.in-Some.ensures c.if-b-eq10.false (sym c.blank.ensures ∙ c.if-blank.false) c.if-b-eq33.false refl c.in-Err.ensures.read c.bytes.invariant.same)
 
 pub bytes-preserved : goal.bytes-preserved
@@ -36,10 +39,18 @@ bytes-preserved c =
     ∙ ap (λ z. all_shown text c.bytes.spots ++ (record { kind = kind_at c.in-Ok.sort z; line = c.bytes.line; offset = offset } ∷ [])) here in
     record {
       same = rw shows
-          (token_on (all_shown text c.bytes.spots) (length text) c.bytes.line c.in-Some.b rest c.in-Some.after.now c.in-Ok.left.now token offset (tokens_of text)
+          (token_on (all_shown text c.bytes.spots) (length text) c.bytes.line c.in-Some.b rest c.in-Some.after.now
+          c.in-Ok.left.now token offset (tokens_of text)
           c.in-Some.ensures c.if-b-eq10.false (sym c.blank.ensures ∙ c.if-blank.false) c.if-b-eq33.false refl c.in-Ok.ensures.read c.bytes.invariant.same);
       end = end_on text rest c.in-Some.after.now c.in-Ok.left.now c.in-Some.b c.bytes.invariant.end c.in-Some.ensures c.in-Ok.ensures.end;
-      few = omega (arith, ap length c.in_default-push.ensures, length-append c.bytes.spots (c.new.result ∷ []), ap length c.in-Some.ensures, c.in-Ok.ensures.shorter);
+      few = omega (
+        arith,
+        ap length c.in_default-push.ensures,
+        length-append c.bytes.spots (c.new.result ∷ []),
+        ap
+            length c.in-Some.ensures,
+        c.in-Ok.ensures.shorter,
+      );
       lines = omega (arith, ap length c.in-Some.ensures, c.in-Ok.ensures.shorter);
       first = omega arith;
     }

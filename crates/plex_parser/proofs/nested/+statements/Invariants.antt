@@ -76,7 +76,8 @@ decreases-stmts-stmts l = length (ahead l.left)
 
 abbrev pub invariant-whens-whens : goal.invariant-whens-whens
 invariant-whens-whens l =
-    with_front l.list (many WHEN (when_by (many STMT (stmt_read l.room l.deep))) (ahead l.left)) ≡ many WHEN (when_by (many STMT (stmt_read l.room l.deep))) (ahead l.tokens)
+    with_front l.list (many WHEN (when_by (many STMT (stmt_read l.room l.deep))) (ahead l.left))
+    ≡ many WHEN (when_by (many STMT (stmt_read l.room l.deep))) (ahead l.tokens)
 
 abbrev pub decreases-whens-whens : goal.decreases-whens-whens
 decreases-whens-whens l = length (ahead l.left)

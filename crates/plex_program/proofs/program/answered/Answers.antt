@@ -3,7 +3,8 @@ use Rattle.plex_program.proofs.program.answered.Goals as goal
 
 pub returns-in-Ok-Some-clause-answers : goal.returns-in-Ok-Some-clause-answers
 returns-in-Ok-Some-clause-answers g c =
-    answers_command _ c.args.words.now c.in-Ok-Some.command _ _ c.perform.result (rw c.in-Ok-Some.field-0-is at c.in-Ok-Some.ensures.command) c.perform.ensures.comes
+    answers_command _ c.args.words.now c.in-Ok-Some.command _ _ c.perform.result
+    (rw c.in-Ok-Some.field-0-is at c.in-Ok-Some.ensures.command) c.perform.ensures.comes
 
 pub returns-in-Ok-None-clause-answers : goal.returns-in-Ok-None-clause-answers
 returns-in-Ok-None-clause-answers g c =

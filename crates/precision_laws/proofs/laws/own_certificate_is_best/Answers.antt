@@ -1,4 +1,5 @@
-use Rattle.precision_laws.proofs.Owning.{accepted_checked, conflicts_stay, jobs_pass, never_stays, pairs_pass, tests_stay}
+use Rattle.precision_laws.proofs.Owning.{accepted_checked, conflicts_stay, jobs_pass, never_stays}
+use Rattle.precision_laws.proofs.Owning.{pairs_pass, tests_stay}
 use Rattle.precision_laws.proofs.laws.own_certificate_is_best.Goals as goal
 
 pub returns-clause-accepted : goal.returns-clause-accepted

@@ -9,7 +9,8 @@ pub returns-clause-some : goal.returns-clause-some
 returns-clause-some c = counted
 
 pub returns-clause-one : goal.returns-clause-one
-returns-clause-one c = λ k b words n m made other. one_total k.exchange k.code b.limit (with_words b.state words) (jobs_of_run k.exchange b words) n m made other
+returns-clause-one c = λ k b words n m made other. one_total k.exchange k.code b.limit (with_words b.state words)
+    (jobs_of_run k.exchange b words) n m made other
 
 pub returns-clause-limited : goal.returns-clause-limited
 returns-clause-limited c = λ x b words. few_jobs x (with_words b.state words) b.limit

@@ -4,4 +4,5 @@ use Rattle.report_text.proofs.Lines.{Left}
 use Rattle.report_text.proofs.forlopps.add_chain.Given as goal
 
 abbrev pub invariant-loop-held : goal.invariant-loop-held
-invariant-loop-held l = Left l.fn.text l.text (map (held_line l.exchange.blocks l.forlopp) (drop l.held-index l.chain)) (map (held_line l.exchange.blocks l.forlopp) l.chain)
+invariant-loop-held l = Left l.fn.text l.text (map (held_line l.exchange.blocks l.forlopp) (drop l.held-index l.chain))
+    (map (held_line l.exchange.blocks l.forlopp) l.chain)

@@ -12,4 +12,5 @@ pub add_files-requires-clause-fits : goal.add_files-requires-clause-fits
 add_files-requires-clause-fits c =
     let items : List Block = c.as_slice-block-items.result.now in
     let same : items ≡ c.args.exchange.now.blocks = search (rules, common_steps) in
-    files_fit c.args.exchange.now items c.loop-number.number c.block-item.result c.as_slice.result.now c.kept.ensures same c.loop-number-test.true c.block-item.is c.as_slice.ensures
+    files_fit c.args.exchange.now items c.loop-number.number c.block-item.result c.as_slice.result.now c.kept.ensures
+    same c.loop-number-test.true c.block-item.is c.as_slice.ensures

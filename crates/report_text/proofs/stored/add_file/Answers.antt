@@ -19,9 +19,13 @@ loop-number-preserved c =
     let p : Placed = placed c.args.place.now in
     let lines = record_lines c.args.exchange.now.blocks c.args.store.now p in
     let number = c.loop-number.number in
-    left_more c.add_fields_of.new.text (lines number) (flat_map lines (drop (number + 1) (range_with_len 0 p.file.size))) (ap (flat_map lines) (drop_number p.file.size number c.loop-number-test.true)) c.in_ok-add_fields_of.ensures c.loop-number.invariant
+    left_more c.add_fields_of.new.text (lines number)
+    (flat_map lines (drop (number + 1) (range_with_len 0 p.file.size)))
+    (ap (flat_map lines) (drop_number p.file.size number c.loop-number-test.true)) c.in_ok-add_fields_of.ensures
+    c.loop-number.invariant
 
 pub returns : goal.returns
 returns c =
     let p : Placed = placed c.args.place.now in
-    left_end (ap (flat_map (record_lines c.args.exchange.now.blocks c.args.store.now p)) (drop_numbers p.file.size c.loop-number.number c.loop-number-test.false)) c.loop-number.invariant
+    left_end (ap (flat_map (record_lines c.args.exchange.now.blocks c.args.store.now p))
+    (drop_numbers p.file.size c.loop-number.number c.loop-number-test.false)) c.loop-number.invariant

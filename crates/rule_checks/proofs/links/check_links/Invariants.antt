@@ -15,6 +15,10 @@ invariant-loop-part l = record {
 
 abbrev pub invariant-loop-event : goal.invariant-loop-event
 invariant-loop-event l = record {
-  known : links_in l.before l.links ≡ known_of l.signals.kinds.now l.blocks.blocks.now (block_of l.blocks.blocks.now l.part) (joined (take l.part l.parts) ++ take l.event-index l.event-items) (take l.event-index l.event-items);
-  passed : Passed (λ r k e. broken r k e.note) all_rules line_of (known_in_part l.signals.kinds.now l.blocks.blocks.now (take l.part l.parts) l.event-items) l.event-items l.event-index;
+  known : links_in l.before l.links ≡ known_of l.signals.kinds.now l.blocks.blocks.now
+      (block_of l.blocks.blocks.now l.part) (joined (take l.part l.parts) ++ take l.event-index l.event-items)
+      (take l.event-index l.event-items);
+  passed : Passed (λ r k e. broken r k e.note) all_rules line_of
+      (known_in_part l.signals.kinds.now l.blocks.blocks.now (take l.part l.parts) l.event-items) l.event-items
+      l.event-index;
 }

@@ -4,7 +4,8 @@ use Rattle.run_books.proofs.event_bytes.read_values.Goals as goal
 
 pub loop-preserved : goal.loop-preserved
 loop-preserved c =
-    valued_more (reverse c.args.bytes.now.items) (reverse c.loop.bytes.items) (reverse c.read_word.new.bytes.items) c.loop.values c.push.new.self c.read_word.result c.args.many c.loop.counter
+    valued_more (reverse c.args.bytes.now.items) (reverse c.loop.bytes.items) (reverse c.read_word.new.bytes.items)
+    c.loop.values c.push.new.self c.read_word.result c.args.many c.loop.counter
     c.loop-test.true c.read_word.ensures.number c.read_word.ensures.left c.push.ensures c.loop.invariant
 
 pub push-requires : goal.push-requires

@@ -26,4 +26,5 @@ returns c =
     let found : slice_get c.args.layout.now.files c.args.held.file ≡ Some c.in-Some-file_of.row = sym c.file_of.ensures ∙ c.in-Some-file_of.is in
     let is = row_is c.args.exchange.now.blocks c.args.layout.now c.args.held.file p c.in-Some-file_of.row c.requires there found in
     let listed = c.in_ok-list_fields.ensures in
-    record_listed c.args.exchange.now.blocks c.args.held p c.in-Some-file_of.row c.args.stores.now c.list_fields.new.stores c.push.new.self there is (search (rules, listed)) (search (rules))
+    record_listed c.args.exchange.now.blocks c.args.held p c.in-Some-file_of.row c.args.stores.now
+    c.list_fields.new.stores c.push.new.self there is (search (rules, listed)) (search (rules))

@@ -11,4 +11,5 @@ load-after-requires-clause-permit t c = reading_reads _ 0 (ap (λ s. s.1.lent.pe
     ∙ (ap (λ s. s.1.lent.permit) c.lend-seat.ensures.seat ∙ c.in_ok-permit.ensures))
 
 pub returns-clause-reading : goal.returns-clause-reading
-returns-clause-reading t c = taken_reading _ c.all_find.new.root.1 c.load-after.new.seat.1 0 (ap (λ r. r.1.loans) c.take_back.ensures) c.in_ok-others.ensures.reading
+returns-clause-reading t c = taken_reading _ c.all_find.new.root.1 c.load-after.new.seat.1 0
+    (ap (λ r. r.1.loans) c.take_back.ensures) c.in_ok-others.ensures.reading

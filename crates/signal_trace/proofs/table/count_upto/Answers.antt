@@ -9,5 +9,6 @@ use Rattle.signal_trace.proofs.table.count_upto.Goals as goal
 pub returns : goal.returns
 returns c = record {
   there = c.partition_point.ensures.bound;
-  parts = IsPartitionPoint-from_clause (λ (r : Row). is_le (start_order r.start c.args.start)) _ _ c.partition_point.ensures.partitioned (parted c.args.start _ c.requires) (λ a r q k. search rules);
+  parts = IsPartitionPoint-from_clause (λ (r : Row). is_le (start_order r.start c.args.start)) _ _
+      c.partition_point.ensures.partitioned (parted c.args.start _ c.requires) (λ a r q k. search rules);
 }

@@ -6,4 +6,5 @@ use Rattle.signal_trace.proofs.table.in_order.Goals as goal
 
 pub returns-clause-rising : goal.returns-clause-rising
 returns-clause-rising c =
-    subst AreRising (sym c.from_vec.ensures) (c.sort_unstable_by_key.ensures.sorted (λ (r : Row). r.start) (answers_always _ _ _ (λ f a r next called. search rules)))
+    subst AreRising (sym c.from_vec.ensures) (c.sort_unstable_by_key.ensures.sorted (λ (r : Row). r.start)
+    (answers_always _ _ _ (λ f a r next called. search rules)))

@@ -7,8 +7,11 @@ use Rattle.source_interpreter.proofs.control.chosen_by.Goals as goal
 pub returns-in-Some : goal.returns-in-Some
 returns-in-Some c =
     let same : c.as_slice.result.now ≡ (out-When c.in-Some.when.now).body = search rules in
-    chosen_there c.args.whens.now c.args.number c.args.otherwise.now c.first_place.result (c.first_place.ensures (numbers_of c.args.whens.now) c.requires) c.in-Some.when.now c.as_slice.result.now c.in-Some.ensures same
+    chosen_there c.args.whens.now c.args.number c.args.otherwise.now c.first_place.result
+    (c.first_place.ensures (numbers_of c.args.whens.now) c.requires) c.in-Some.when.now c.as_slice.result.now
+    c.in-Some.ensures same
 
 pub returns-in-None : goal.returns-in-None
 returns-in-None c =
-    chosen_nowhere c.args.whens.now c.args.number c.args.otherwise.now c.first_place.result (c.first_place.ensures (numbers_of c.args.whens.now) c.requires) c.in-None.ensures
+    chosen_nowhere c.args.whens.now c.args.number c.args.otherwise.now c.first_place.result
+    (c.first_place.ensures (numbers_of c.args.whens.now) c.requires) c.in-None.ensures

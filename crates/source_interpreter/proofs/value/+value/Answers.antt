@@ -16,7 +16,10 @@ value_of-loop-term-init t c =
     }
 
 pub value_of_factor-value_of-requires : goal.value_of_factor-value_of-requires
-value_of_factor-value_of-requires t c = (first_of (search (rules, the_lemmas), grind (the_lemmas, arith, common_steps)), bracket_of c.args.factor.now c.in-Bracket.e c.requires c.in-Bracket.is)
+value_of_factor-value_of-requires t c = (
+  first_of (search (rules, the_lemmas), grind (the_lemmas, arith, common_steps)),
+  bracket_of c.args.factor.now c.in-Bracket.e c.requires c.in-Bracket.is,
+)
 
 pub value_of_factor-reference-requires : goal.value_of_factor-reference-requires
 value_of_factor-reference-requires t c = reference_below c.args.factor.now c.in-Reference.block c.requires c.in-Reference.is
@@ -30,4 +33,5 @@ value_of_term-loop-joined-init t c =
     }
 
 pub value_of_factor-returns-in-Reference : goal.value_of_factor-returns-in-Reference
-value_of_factor-returns-in-Reference t c = factor_reference c.args.factor.now c.in-Reference.block c.reference.result c.args.view.now c.in-Reference.is c.reference.ensures
+value_of_factor-returns-in-Reference t c = factor_reference c.args.factor.now c.in-Reference.block c.reference.result
+    c.args.view.now c.in-Reference.is c.reference.ensures

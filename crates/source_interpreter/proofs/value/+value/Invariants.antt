@@ -1,5 +1,6 @@
 use Rattle.std.proofs.Common.{◌≡◌, drop, map}
-use Rattle.source_meaning.specs.Value.{expr_value, term_value, sum_value, product_value, summand_of, multiplier_of, answer_of}
+use Rattle.source_meaning.specs.Value.{expr_value, term_value, sum_value, product_value, summand_of}
+use Rattle.source_meaning.specs.Value.{multiplier_of, answer_of}
 use Rattle.source_interpreter.specs.Kept.{AreTermsOfText, AreFactorsOfText}
 use Rattle.source_interpreter.proofs.value.+value.Given as goal
 

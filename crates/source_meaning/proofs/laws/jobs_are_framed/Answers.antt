@@ -1,4 +1,5 @@
-use Rattle.source_meaning.proofs.Agreeing.{job_agrees, stores_agree, job_after, job_keeps, job_length}
+use Rattle.source_meaning.proofs.Agreeing.{job_agrees, stores_agree, job_after, job_keeps}
+use Rattle.source_meaning.proofs.Agreeing.{job_length}
 use Rattle.source_meaning.proofs.Frame.{begun_framed, job_framed}
 use Rattle.source_meaning.proofs.laws.jobs_are_framed.Goals as goal
 

@@ -1,6 +1,7 @@
 use Rattle.source_meaning.proofs.Arriving.{arrivals_valid}
 use Rattle.source_meaning.proofs.Opening.{opening_valid}
-use Rattle.source_meaning.proofs.Retiring.{after_valid, begun_valid, fits_begun, retires_valid, start_fits}
+use Rattle.source_meaning.proofs.Retiring.{after_valid, begun_valid, fits_begun, retires_valid}
+use Rattle.source_meaning.proofs.Retiring.{start_fits}
 use Rattle.source_meaning.proofs.laws.states_stay_valid.Goals as goal
 
 pub returns-clause-opening : goal.returns-clause-opening

@@ -14,5 +14,6 @@ push_runs-requires-clause-below c = runs_below_read c.in-Some.row.size c.in_ok-r
 
 pub returns : goal.returns
 returns c = λ chains all.
-    marks_of c.args.exchange.now c.args.file c.in-Some.row (Marks true chains c.args.file) c.in_ok-runs.runs c.as_slice.result.now c.args.spans.now c.push_runs.new.spans
+    marks_of c.args.exchange.now c.args.file c.in-Some.row (Marks true chains c.args.file) c.in_ok-runs.runs
+    c.as_slice.result.now c.args.spans.now c.push_runs.new.spans
     c.in-Some.ensures c.as_slice.ensures (c.in_ok-runs.ensures.exact chains all) c.in_ok-push_runs.ensures

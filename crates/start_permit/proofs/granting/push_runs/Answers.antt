@@ -11,7 +11,9 @@ push_run-requires-clause-below c = run_in c.args.row.size c.args.runs.now c.loop
 
 pub loop-run-preserved : goal.loop-run-preserved
 loop-run-preserved c =
-    go_more (InRow c.args.row c.args.place) c.args.runs.now c.loop-run.run-index _ c.args.spans.now c.loop-run.spans c.push_run.new.spans c.loop-run-test.true c.in_ok-push_run.ensures c.loop-run.invariant
+    go_more (InRow c.args.row c.args.place) c.args.runs.now c.loop-run.run-index _ c.args.spans.now c.loop-run.spans
+    c.push_run.new.spans c.loop-run-test.true c.in_ok-push_run.ensures c.loop-run.invariant
 
 pub returns : goal.returns
-returns c = go_end (InRow c.args.row c.args.place) c.args.runs.now c.loop-run.run-index c.args.spans.now c.loop-run.spans c.loop-run-test.false c.loop-run.invariant
+returns c = go_end (InRow c.args.row c.args.place) c.args.runs.now c.loop-run.run-index c.args.spans.now
+    c.loop-run.spans c.loop-run-test.false c.loop-run.invariant

@@ -12,10 +12,12 @@ overflow_add-next c =
 
 pub loop-number-preserved : goal.loop-number-preserved
 loop-number-preserved c =
-    gaps_more c.args.numbers.now c.loop-number.number-index _ c.loop-number.next _ _ c.run_between.result c.loop-number.runs c.push.new.self c.requires.rising c.loop-number-test.true refl
+    gaps_more c.args.numbers.now c.loop-number.number-index _ c.loop-number.next _ _ c.run_between.result
+    c.loop-number.runs c.push.new.self c.requires.rising c.loop-number-test.true refl
     c.run_between.ensures.low c.run_between.ensures.back refl c.in_ok-push.ensures c.loop-number.invariant
 
 pub returns : goal.returns
 returns c =
-    gaps_end c.args.numbers.now c.loop-number.number-index c.args.size c.loop-number.next c.run_between-2.result c.loop-number.runs c.push-2.new.self c.loop-number-test.false c.requires.below
+    gaps_end c.args.numbers.now c.loop-number.number-index c.args.size c.loop-number.next c.run_between-2.result
+    c.loop-number.runs c.push-2.new.self c.loop-number-test.false c.requires.below
     c.run_between-2.ensures.low c.run_between-2.ensures.back c.in_ok-push-2.ensures c.loop-number.invariant

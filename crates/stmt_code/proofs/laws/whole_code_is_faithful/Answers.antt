@@ -8,7 +8,8 @@ use Rattle.stmt_code.proofs.WholeRuns.{whole_faithful}
 use Rattle.stmt_code.proofs.laws.whole_code_is_faithful.Goals as goal
 
 pub returns-clause-operands : goal.returns-clause-operands
-returns-clause-operands c = operands_fit c.args.exchange.now c.args.code.now.ops c.kept.ensures c.files_are_numbered.ensures c.requires.ops c.numbers_are_words.ensures
+returns-clause-operands c = operands_fit c.args.exchange.now c.args.code.now.ops c.kept.ensures
+    c.files_are_numbered.ensures c.requires.ops c.numbers_are_words.ensures
 
 pub returns-clause-faithful : goal.returns-clause-faithful
 returns-clause-faithful c =

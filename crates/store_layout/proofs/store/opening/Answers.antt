@@ -9,4 +9,6 @@ pub loop-block-preserved : goal.loop-block-preserved
 loop-block-preserved c =
     let items : List Block = c.as_slice-block-items.result.now in
     let same : items ≡ c.args.exchange.now.blocks = search (rules, common_steps) in
-    filled_more block_opening [] c.loop-block.store c.open_block.new.store c.args.exchange.now.blocks items c.loop-block.block-index c.block-item.result same c.loop-block-test.true c.block-item.is c.in_ok-open_block.ensures c.loop-block.invariant
+    filled_more block_opening [] c.loop-block.store c.open_block.new.store c.args.exchange.now.blocks items
+    c.loop-block.block-index c.block-item.result same c.loop-block-test.true c.block-item.is
+    c.in_ok-open_block.ensures c.loop-block.invariant

@@ -9,4 +9,5 @@ pub returns-in-Some-clause-cases : goal.returns-in-Some-clause-cases
 returns-in-Some-clause-cases c =
     let t = c.args.text.now in
     let place : position is_line_end t ≡ Some c.in-Some.at = search (rules, common_steps) in
-    line_ended t c.without_return.result.now c.back.result.now c.in-Some.at place (c.without_return.ensures ∙ ap strip_carriage_return c.front.ensures) c.back.ensures
+    line_ended t c.without_return.result.now c.back.result.now c.in-Some.at place
+    (c.without_return.ensures ∙ ap strip_carriage_return c.front.ensures) c.back.ensures

@@ -9,4 +9,5 @@ returns-then-at-gt0-clause-cases c =
     let rest = c.loop-at.rest.now in
     let place : position is_blank rest ≡ Some c.in-Some.at = search (rules, common_steps) in
     let within : c.in-Some.at < length rest = search (rules, common_steps) in
-    word_ended rest c.front.result.now c.back.result.now c.in-Some.at (words c.args.line.now) place c.if-at-gt0.true within c.front.ensures c.back.ensures c.loop-at.invariant.same
+    word_ended rest c.front.result.now c.back.result.now c.in-Some.at (words c.args.line.now) place c.if-at-gt0.true
+    within c.front.ensures c.back.ensures c.loop-at.invariant.same

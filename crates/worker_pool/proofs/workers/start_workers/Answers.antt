@@ -1,4 +1,5 @@
--- A worker's closure may go to another thread: it holds references alone, and each to what several threads may use at once.
+-- A worker's closure may go to another thread: it holds references alone, and each to what several
+-- threads may use at once.
 use Prim.{tt}
 use mir.Syntax.{of_param}
 use denote.Param.{param}

@@ -5,4 +5,5 @@ pub returns-then-point-self : goal.returns-then-point-self
 returns-then-point-self c = not_reached c.args.self.now.known.now c.args.self.now.point c.args.entry c.args.point c.if-point-self.true
 
 pub returns : goal.returns
-returns c = is_reached_here c.args.self.now.known.now c.args.self.now.point c.args.entry c.args.point c.is_reached.result c.if-point-self.false c.is_reached.ensures
+returns c = is_reached_here c.args.self.now.known.now c.args.self.now.point c.args.entry c.args.point
+    c.is_reached.result c.if-point-self.false c.is_reached.ensures

@@ -11,14 +11,20 @@ spot_in-requires c =
     let read : c.index.result.now ≡ get_or c.self.inside.starts.items c.args.point c.index.result.now = c.index.ensures in
     let small : c.len.result < 2 ^ 64 = grind (arith, common_steps) in
     let few : length c.self.inside.planes.set_numbers < 2 ^ 64 = omega (arith, c.len.ensures, small) in
-    let from = start_is c.self.inside.slots c.self.inside.starts.items (length c.self.inside.planes.set_numbers) (length c.self.inside.awaits.set_numbers) c.args.point c.index.result.now c.in-Some.counts.now c.self.invariant.laid there read in
-    start_small c.self.inside.slots c.self.inside.starts.items (length c.self.inside.planes.set_numbers) (length c.self.inside.awaits.set_numbers) c.args.point c.index.result.now c.in-Some.counts.now c.self.invariant.laid few there from
+    let from = start_is c.self.inside.slots c.self.inside.starts.items (length c.self.inside.planes.set_numbers)
+    (length c.self.inside.awaits.set_numbers) c.args.point c.index.result.now c.in-Some.counts.now
+    c.self.invariant.laid there read in
+    start_small c.self.inside.slots c.self.inside.starts.items (length c.self.inside.planes.set_numbers)
+    (length c.self.inside.awaits.set_numbers) c.args.point c.index.result.now c.in-Some.counts.now
+    c.self.invariant.laid few there from
 
 pub returns-in-Some : goal.returns-in-Some
 returns-in-Some c =
     let there : slice_get c.self.inside.slots c.args.point ≡ Some c.in-Some.counts.now = c.in-Some.ensures in
     let read : c.index.result.now ≡ get_or c.self.inside.starts.items c.args.point c.index.result.now = c.index.ensures in
-    let from = start_is c.self.inside.slots c.self.inside.starts.items (length c.self.inside.planes.set_numbers) (length c.self.inside.awaits.set_numbers) c.args.point c.index.result.now c.in-Some.counts.now c.self.invariant.laid there read in
+    let from = start_is c.self.inside.slots c.self.inside.starts.items (length c.self.inside.planes.set_numbers)
+    (length c.self.inside.awaits.set_numbers) c.args.point c.index.result.now c.in-Some.counts.now
+    c.self.invariant.laid there read in
     subst (λ (m : Marks). c.spot_in.result ≡ spot_of m.slots c.args.point c.args.slot) c.self.view_is
     (spot_some c.self.inside.slots c.args.point c.args.slot c.in-Some.counts.now c.index.result.now c.spot_in.result there from c.spot_in.ensures)
 

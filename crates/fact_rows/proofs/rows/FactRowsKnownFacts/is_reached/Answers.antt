@@ -5,4 +5,5 @@ pub returns-then-entry-self : goal.returns-then-entry-self
 returns-then-entry-self c = unreached_ok c.args.self.now c.args.entry c.self.inside.entry c.args.point c.self.inside.grid c.self.view_is c.if-entry-self.true
 
 pub returns : goal.returns
-returns c = reached_ok c.args.self.now c.args.entry c.self.inside.entry c.args.point c.self.inside.grid c.is_empty.result c.self.view_is c.if-entry-self.false c.is_empty.ensures
+returns c = reached_ok c.args.self.now c.args.entry c.self.inside.entry c.args.point c.self.inside.grid
+    c.is_empty.result c.self.view_is c.if-entry-self.false c.is_empty.ensures

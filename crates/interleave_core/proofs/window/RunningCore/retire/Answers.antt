@@ -13,7 +13,9 @@ arrive_after-requires c =
 pub returns : goal.returns
 returns c = λ oldest younger first.
     let mid = c.retire_oldest.new.self in
-    has_gone c.args.exchange.now c.args.self.now mid (record { books = c.arrive_after.new.books; words = mid.words; window = mid.window; retired = mid.retired }) oldest younger
+    has_gone c.args.exchange.now c.args.self.now mid
+    (record { books = c.arrive_after.new.books; words = mid.words; window = mid.window; retired = mid.retired })
+    oldest younger
     (c.in_ok-retire_oldest.ensures oldest younger first)
     (c.in_ok-arrive_after.ensures ∙ ap (λ js. record mid.books { state = settles c.args.exchange.now js mid.books.state }) c.deref.ensures.value)
     refl refl refl c.requires.running first

@@ -23,4 +23,5 @@ invariant_of-self-2 c =
     let number : c.self.inside.pushed + (rooms c.self.inside.queues.room + (c.args.more - room_at c.args.level c.self.inside.queues.room)) < 2 ^ 64 =
     grind (arith, common_steps) in
     rw (c.reserve.ensures.stays, c.make_room.ensures.lists)
-    (sound_made c.make_room.result c.args.level c.args.more _ _ _ _ _ _ c.self.inside.queues.room _ c.self.invariant c.make_room.ensures.room c.reserve.ensures.no_less place number)
+    (sound_made c.make_room.result c.args.level c.args.more _ _ _ _ _ _ c.self.inside.queues.room _ c.self.invariant
+    c.make_room.ensures.room c.reserve.ensures.no_less place number)

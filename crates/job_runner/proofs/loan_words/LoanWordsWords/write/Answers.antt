@@ -5,4 +5,5 @@ use Rattle.shared_store.proofs.Touched.{stored-snoc}
 use Rattle.job_runner.proofs.loan_words.LoanWordsWords.write.Goals as goal
 
 pub returns-clause-values : goal.returns-clause-values
-returns-clause-values c = let h = c.args.self.now.seat.1 in ap (λ s. current s.1) c.store.ensures ∙ stored-snoc h.touches h.lent.base (Store c.args.word c.args.value)
+returns-clause-values c = let h = c.args.self.now.seat.1 in ap (λ s. current s.1) c.store.ensures
+    ∙ stored-snoc h.touches h.lent.base (Store c.args.word c.args.value)

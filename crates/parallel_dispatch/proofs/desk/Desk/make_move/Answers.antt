@@ -7,7 +7,8 @@ use Rattle.parallel_dispatch.specs.Desks.{DeskView}
 use Rattle.parallel_dispatch.specs.Events.{whole_turn}
 use Rattle.parallel_dispatch.specs.Moves.{HasSummary}
 use Rattle.parallel_dispatch.specs.Turning.{turn_of}
-use Rattle.parallel_dispatch.proofs.Desking.{desk_issued, desk_line, desk_next, desk_some, desk_stands, desk_turned, desk_window}
+use Rattle.parallel_dispatch.proofs.Desking.{desk_issued, desk_line, desk_next, desk_some}
+use Rattle.parallel_dispatch.proofs.Desking.{desk_stands, desk_turned, desk_window}
 use Rattle.parallel_dispatch.proofs.desk.Desk.make_move.Goals as goal
 
 pub next_move-requires-clause-line : goal.next_move-requires-clause-line
@@ -43,7 +44,8 @@ invariant_of-result g c =
     desk_turned g.B.Naming.exchange g.B.Course.kept g.B.Naming.code g.B.Naming.store g.B.Course.workers g.B.Course.first g.B.Course.limit
     c.requires.suits.set
     c.self.inside.books.value c.self.inside.root c.self.inside.window c.self.inside.steps c.self.invariant
-    whole_turn c.deref_mut-held.result.now c.run_alone.new.books c.in-Ok.alone c.run_alone.new.window _ c.deref_mut-held.ensures.value c.in-Ok.ensures.turned refl
+    whole_turn c.deref_mut-held.result.now c.run_alone.new.books c.in-Ok.alone c.run_alone.new.window _
+    c.deref_mut-held.ensures.value c.in-Ok.ensures.turned refl
 
 pub issue-requires-clause-beside : goal.issue-requires-clause-beside
 issue-requires-clause-beside g c =
@@ -57,7 +59,9 @@ invariant_of-result-in-Ok-issue g c =
     desk_issued g.B.Naming.exchange g.B.Course.kept g.B.Naming.code g.B.Naming.store g.B.Course.workers g.B.Course.first g.B.Course.limit
     c.requires.suits.set
     c.self.inside.books.value c.self.inside.root c.self.inside.window c.self.inside.steps c.self.invariant
-    c.deref_mut-held.result.now c.issue.new.books c.issue.new.root c.issue.new.window c.deref_mut-held.ensures.value c.in-Ok-issue.ensures.issued.event c.in-Ok-issue.ensures.counted.0 c.in-Ok-issue.ensures.issued.fly c.issue.ensures.root c.issue.ensures.room c.in-Ok-issue.ensures.counted.1
+    c.deref_mut-held.result.now c.issue.new.books c.issue.new.root c.issue.new.window c.deref_mut-held.ensures.value
+    c.in-Ok-issue.ensures.issued.event c.in-Ok-issue.ensures.counted.0 c.in-Ok-issue.ensures.issued.fly
+    c.issue.ensures.root c.issue.ensures.room c.in-Ok-issue.ensures.counted.1
 
 pub retire-requires-clause-some : goal.retire-requires-clause-some
 retire-requires-clause-some g c =
@@ -79,4 +83,5 @@ invariant_of-result-in-Ok-retire g c =
     desk_turned g.B.Naming.exchange g.B.Course.kept g.B.Naming.code g.B.Naming.store g.B.Course.workers g.B.Course.first g.B.Course.limit
     c.requires.suits.set
     c.self.inside.books.value c.self.inside.root c.self.inside.window c.self.inside.steps c.self.invariant
-    turn_of c.deref_mut-held.result.now c.retire.new.books c.in-Ok-retire.oldest c.retire.new.window _ c.deref_mut-held.ensures.value c.in-Ok-retire.ensures.turned refl
+    turn_of c.deref_mut-held.result.now c.retire.new.books c.in-Ok-retire.oldest c.retire.new.window _
+    c.deref_mut-held.ensures.value c.in-Ok-retire.ensures.turned refl

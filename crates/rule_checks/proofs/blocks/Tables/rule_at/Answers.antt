@@ -12,14 +12,20 @@ loop-rule-init c = rules_begin (λ r k e. broken r k e.note) all_rules (known_in
 pub returns-then-is_broken : goal.returns-then-is_broken
 returns-then-is_broken c =
     let r = get_or all_rules c.loop-rule.rule-index rule.DeclaredTwice in
-    rules_hit (λ r k e. broken r k e.note) all_rules (known_in c.args.self.now c.args.around.now) c.args.event.now all_rules c.loop-rule.rule-index r c.loop-rule-test.true (get_or_default all_rules c.loop-rule.rule-index _ _ c.loop-rule-test.true)
+    rules_hit (λ r k e. broken r k e.note) all_rules (known_in c.args.self.now c.args.around.now) c.args.event.now
+    all_rules c.loop-rule.rule-index r c.loop-rule-test.true
+    (get_or_default all_rules c.loop-rule.rule-index _ _ c.loop-rule-test.true)
     (ap (broken r (known_in c.args.self.now c.args.around.now)) (sym c.kind-kind.ensures) ∙ sym c.is_broken.ensures ∙ c.if-is_broken.true) c.loop-rule.invariant
 
 pub loop-rule-preserved : goal.loop-rule-preserved
 loop-rule-preserved c =
     let r = get_or all_rules c.loop-rule.rule-index rule.DeclaredTwice in
-    rules_step (λ r k e. broken r k e.note) all_rules (known_in c.args.self.now c.args.around.now) c.args.event.now all_rules c.loop-rule.rule-index r c.loop-rule-test.true (get_or_default all_rules c.loop-rule.rule-index _ _ c.loop-rule-test.true)
-    (ap (broken r (known_in c.args.self.now c.args.around.now)) (sym c.kind-kind.ensures) ∙ sym c.is_broken.ensures ∙ c.if-is_broken.false) c.loop-rule.invariant
+    rules_step (λ r k e. broken r k e.note) all_rules (known_in c.args.self.now c.args.around.now) c.args.event.now
+    all_rules c.loop-rule.rule-index r c.loop-rule-test.true
+    (get_or_default all_rules c.loop-rule.rule-index _ _ c.loop-rule-test.true)
+    (ap (broken r (known_in c.args.self.now c.args.around.now)) (sym c.kind-kind.ensures) ∙ sym c.is_broken.ensures
+    ∙ c.if-is_broken.false) c.loop-rule.invariant
 
 pub returns : goal.returns
-returns c = rules_end (λ r k e. broken r k e.note) all_rules (known_in c.args.self.now c.args.around.now) c.args.event.now all_rules c.loop-rule.rule-index c.loop-rule-test.false c.loop-rule.invariant
+returns c = rules_end (λ r k e. broken r k e.note) all_rules (known_in c.args.self.now c.args.around.now)
+    c.args.event.now all_rules c.loop-rule.rule-index c.loop-rule-test.false c.loop-rule.invariant

@@ -17,11 +17,14 @@ invariant_of-self c =
     let bytes = c.self.inside.last_first.items in
     let some : 0 < length bytes = grind (arith, common_steps) in
     let left : reverse c.give_back.new.bytes.items ≡ after_event (reverse bytes) = ap reverse c.give_back.ensures ∙ c.read_event-event.ensures.left in
-    next_told (reverse bytes) (reverse c.give_back.new.bytes.items) (event_of c.read_event-event.result) c.self.invariant (omega (arith, some, length-reverse bytes)) c.read_event-event.ensures.event left
+    next_told (reverse bytes) (reverse c.give_back.new.bytes.items) (event_of c.read_event-event.result)
+    c.self.invariant (omega (arith, some, length-reverse bytes)) c.read_event-event.ensures.event left
 
 pub returns : goal.returns
 returns c =
     let bytes = c.self.inside.last_first.items in
     let some : 0 < length bytes = grind (arith, common_steps) in
     let left : reverse c.give_back.new.bytes.items ≡ after_event (reverse bytes) = ap reverse c.give_back.ensures ∙ c.read_event-event.ensures.left in
-    sym c.self.view_is ∙ told_next (reverse bytes) (reverse c.give_back.new.bytes.items) (event_of c.read_event-event.result) c.self.invariant (omega (arith, some, length-reverse bytes)) c.read_event-event.ensures.event left
+    sym c.self.view_is ∙ told_next (reverse bytes) (reverse c.give_back.new.bytes.items)
+    (event_of c.read_event-event.result) c.self.invariant (omega (arith, some, length-reverse bytes))
+    c.read_event-event.ensures.event left

@@ -8,8 +8,11 @@ use Rattle.run_books.proofs.schedule.Schedule.new.Goals as goal
 
 -- src/schedule.rt:47:5
 pub invariant_of-result : goal.invariant_of-result
-invariant_of-result c =
-    (omega (arith, ap length c.new.ensures.items), known_begin (get nat_eq c.new-2.result) c.args.lines c.new.result.items c.new.ensures.items (λ n. ap (lookup (nat_eq n)) c.new-2.ensures.empty))
+invariant_of-result c = (
+  omega (arith, ap length c.new.ensures.items),
+  known_begin (get nat_eq c.new-2.result) c.args.lines
+      c.new.result.items c.new.ensures.items (λ n. ap (lookup (nat_eq n)) c.new-2.ensures.empty),
+)
 
 -- src/schedule.rt:47:5
 pub returns-clause-arrived : goal.returns-clause-arrived

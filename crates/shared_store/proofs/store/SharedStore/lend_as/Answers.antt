@@ -7,7 +7,9 @@ use Rattle.shared_store.proofs.Lending.{cuts}
 use Rattle.shared_store.proofs.store.SharedStore.lend_as.Goals as goal
 
 pub split_seat-seat-requires : goal.split_seat-seat-requires
-split_seat-seat-requires g c = let home = ap (λ p. p.0) c.root.view_is ∙ (c.requires.store ∙ sym c.self.view_is) in let words = ap (λ z. z.words) home in let cells = c.root.invariant.cells in
+split_seat-seat-requires g c = let home = ap (λ p. p.0) c.root.view_is
+    ∙ (c.requires.store ∙ sym c.self.view_is) in let words =
+    ap (λ z. z.words) home in let cells = c.root.invariant.cells in
     let same = ap (λ p. p.1.loans) (sym c.root.view_is) in (
       home,
       subst (λ n. 0 < n) (cells ∙ words) (place_later _ _),

@@ -17,19 +17,30 @@ load-found-requires c = let same = ap (λ p. p.1) (sym c.root.view_is) in let lt
     let home = ap (λ p. p.0) c.root.view_is ∙ (c.requires.store ∙ sym c.self.view_is) in
     let there = c.place_of-place.ensures ∙ ap (λ z. place z.slots c.args.word) (sym c.self.view_is) in
     let z = c.self.inside.table.shared.table_id in let me = c.root.inside.seat.me in
-    let inside = place_within z.slots c.args.word _ z.words (subst (λ (y : TableId). place y.slots (length (top_of me.0).values) ≡ y.words) home c.root.invariant.cells) lt in
-    let allowed = subst (λ (p : ℕ). (p < z.words) × Allows Lending z.slots c.root.inside.seat.id me p (λ n. n) (root_looked (step z.slots p 0 0 none) me)) (sym there) (
+    let inside = place_within z.slots c.args.word _ z.words
+    (subst (λ (y : TableId). place y.slots (length (top_of me.0).values) ≡ y.words) home c.root.invariant.cells) lt
+    in
+    let allowed = subst (λ (p : ℕ). (p < z.words)
+    × Allows Lending z.slots c.root.inside.seat.id me p (λ n. n) (root_looked (step z.slots p 0 0 none) me))
+    (sym there) (
       inside,
-      root_looks _ _ _ (top_of c.root.inside.seat.me.0) c.args.word (ap (λ m. m.0) c.root.invariant.root) (subst (λ (t : Top). lent_out t.loans c.args.word ≡ false) same c.requires.free) lt,
+      root_looks _ _ _ (top_of c.root.inside.seat.me.0) c.args.word (ap (λ m. m.0) c.root.invariant.root)
+          (subst (λ (t : Top). lent_out t.loans c.args.word ≡ false) same c.requires.free) lt,
     ) in (home, allowed.0, allowed.1)
 
 pub overflow_cast-result : goal.overflow_cast-result
-overflow_cast-result c = let there = c.place_of-place.ensures ∙ ap (λ z. place z.slots c.args.word) (sym c.self.view_is) in record { fits = (c.load-found.ensures.2 _ c.args.word (ap (λ m. m.0) c.root.invariant.root) there).2 }
+overflow_cast-result c = let there = c.place_of-place.ensures
+    ∙ ap (λ z. place z.slots c.args.word) (sym c.self.view_is) in record
+    { fits = (c.load-found.ensures.2 _ c.args.word (ap (λ m. m.0) c.root.invariant.root) there).2 }
 
 pub invariant_of-root : goal.invariant_of-root
-invariant_of-root c = let there = c.place_of-place.ensures ∙ ap (λ z. place z.slots c.args.word) (sym c.self.view_is) in let told = c.load-found.ensures.2 _ c.args.word (ap (λ m. m.0) c.root.invariant.root) there in
+invariant_of-root c = let there = c.place_of-place.ensures
+    ∙ ap (λ z. place z.slots c.args.word) (sym c.self.view_is) in let told =
+    c.load-found.ensures.2 _ c.args.word (ap (λ m. m.0) c.root.invariant.root) there in
     keeps_root _ _ _ _ _ c.root.invariant c.load-found.ensures.0 (told.0 ∙ λ i. (ap (λ (m : Sat). m.0) c.root.invariant.root i, c.root.inside.seat.me.1)) refl
 
 pub returns-clause-same : goal.returns-clause-same
-returns-clause-same c = let there = c.place_of-place.ensures ∙ ap (λ z. place z.slots c.args.word) (sym c.self.view_is) in let told = c.load-found.ensures.2 _ c.args.word (ap (λ m. m.0) c.root.invariant.root) there in
+returns-clause-same c = let there = c.place_of-place.ensures
+    ∙ ap (λ z. place z.slots c.args.word) (sym c.self.view_is) in let told =
+    c.load-found.ensures.2 _ c.args.word (ap (λ m. m.0) c.root.invariant.root) there in
     (λ i. (c.load-found.ensures.0 i, top_of (ap (λ (m : Sat). m.0) told.0 i))) ∙ c.root.view_is

@@ -8,5 +8,6 @@ pub returns : goal.returns
 returns c =
     let name = c.args.name.now in
     let v = c.self.view_is in
-    added_last (λ k. k.items) c.self.inside.names.keys c.insert_full.new.self.keys c.in-Ok.name name (ap (list_any (bytes_eq name)) v ∙ c.requires) c.in-Ok.ensures.items c.in-Ok-insert_full.ensures.keys
+    added_last (λ k. k.items) c.self.inside.names.keys c.insert_full.new.self.keys c.in-Ok.name name
+    (ap (list_any (bytes_eq name)) v ∙ c.requires) c.in-Ok.ensures.items c.in-Ok-insert_full.ensures.keys
     ∙ ap (λ (l : List (List ℕ)). l ++ name ∷ []) v

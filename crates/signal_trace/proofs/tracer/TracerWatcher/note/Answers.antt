@@ -23,6 +23,7 @@ returns c =
     let longer : c.add_job.new.text ≡ c.take_end-end.result ++ job_text x job =
     c.in_ok-add_job.ensures ∙ (λ i. c.take_end-end.result ++ job_text x (record job { start = c.copy.ensures i; sends = c.in_ok-sends.ensures i })) in
     let wrote : c.put.new.self ≡ t.text ++ job_text x job =
-    put_back t.text c.take_end-end.new.self c.take_end-end.result c.add_job.new.text (job_text x job) c.put.new.self c.take_end-end.ensures longer c.in_ok-put.ensures in
+    put_back t.text c.take_end-end.new.self c.take_end-end.result c.add_job.new.text (job_text x job) c.put.new.self
+    c.take_end-end.ensures longer c.in_ok-put.ensures in
     let more = told_one x t.shows.now job t.text c.put.new.self (sym c.is_shown.ensures ∙ on) wrote in
     λ i. record t { text = more i }

@@ -7,4 +7,5 @@ use Rattle.source_interpreter.proofs.place.Place.first_free.Given as goal
 
 abbrev pub invariant-loop-number : goal.invariant-loop-number
 invariant-loop-number l =
-    find (λ n. nat_eq (slice_index l.store (mark_cell l.self n)) 0) (range_with_len l.number (l.number-end - l.number)) ≡ least_record (λ n. nat_eq (slice_index l.store (mark_cell l.self n)) 0) l.self.file.size
+    find (λ n. nat_eq (slice_index l.store (mark_cell l.self n)) 0) (range_with_len l.number (l.number-end - l.number))
+    ≡ least_record (λ n. nat_eq (slice_index l.store (mark_cell l.self n)) 0) l.self.file.size

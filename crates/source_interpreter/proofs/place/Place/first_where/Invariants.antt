@@ -8,4 +8,6 @@ use Rattle.source_interpreter.proofs.place.Place.first_where.Given as goal
 
 abbrev pub invariant-loop-number : goal.invariant-loop-number
 invariant-loop-number l =
-    find (λ n. stand l.rel (slice_index l.store (field_cell l.self n l.field)) l.value) (range_with_len l.number (l.number-end - l.number)) ≡ least_record (λ n. stand l.rel (slice_index l.store (field_cell l.self n l.field)) l.value) l.self.file.size
+    find (λ n. stand l.rel (slice_index l.store (field_cell l.self n l.field)) l.value)
+    (range_with_len l.number (l.number-end - l.number))
+    ≡ least_record (λ n. stand l.rel (slice_index l.store (field_cell l.self n l.field)) l.value) l.self.file.size

@@ -40,7 +40,8 @@ returns-then-frame-answer c =
     let k : Caller = c.in-Some.frame in
     let values : Ok vs ≡ values_of c.args.values.now [] (sight_of r s) = search rules in
     let awaits : c.frame.inside.awaits ≡ k.awaits = ap (λ (f : Caller). f.awaits) c.frame.view_is in
-    return_other r r1 s c.args.answer c.args.values.now vs values c.take_caller.result k r1.callers c.in-Some.is c.take_caller.ensures.caller c.take_caller.ensures.others (λ e. c.if-frame-answer.true (awaits ∙ e))
+    return_other r r1 s c.args.answer c.args.values.now vs values c.take_caller.result k r1.callers c.in-Some.is
+    c.take_caller.ensures.caller c.take_caller.ensures.others (λ e. c.if-frame-answer.true (awaits ∙ e))
 
 pub returns : goal.returns
 returns c =
@@ -51,5 +52,12 @@ returns c =
     let k : Caller = c.in-Some.frame in
     let values : Ok vs ≡ values_of c.args.values.now [] (sight_of r s) = search rules in
     let awaits : c.frame.inside.awaits ≡ k.awaits = ap (λ (f : Caller). f.awaits) c.frame.view_is in
-    let resumed : c.resume.new.self ≡ record r1 { block = k.block; todo = k.todo; temps = k.temps; own = record r1.own { given = k.given; answers = eight vs } } = search rules in
-    return_goes r r1 s c.args.answer c.args.values.now vs values c.resume.new.self c.take_caller.result k r1.callers c.in-Some.is c.take_caller.ensures.caller c.take_caller.ensures.others (sym awaits ∙ c.if-frame-answer.false) resumed
+    let resumed : c.resume.new.self ≡ record r1 {
+      block = k.block;
+      todo = k.todo;
+      temps = k.temps;
+      own = record r1.own { given = k.given; answers = eight vs };
+    } = search rules in
+    return_goes r r1 s c.args.answer c.args.values.now vs values c.resume.new.self c.take_caller.result k r1.callers
+    c.in-Some.is c.take_caller.ensures.caller c.take_caller.ensures.others (sym awaits ∙ c.if-frame-answer.false)
+    resumed

@@ -10,4 +10,5 @@ returns c =
     let r = c.args.self.now in
     let there : Some c.in-Some.place ≡ slice_get (files_of r.exchange) c.args.file = search rules in
     let right : Ok tt ≡ unless (pointer_fault r.own.chain c.args.file c.in-Some.place c.temp-number.result) = search rules in
-    free_goes r c.let_go.new.self c.args.store.now c.open.new.store c.args.temp c.args.file c.temp-number.result c.in-Some.place there c.temp-number.ensures right c.open.ensures c.let_go.ensures
+    free_goes r c.let_go.new.self c.args.store.now c.open.new.store c.args.temp c.args.file c.temp-number.result
+    c.in-Some.place there c.temp-number.ensures right c.open.ensures c.let_go.ensures

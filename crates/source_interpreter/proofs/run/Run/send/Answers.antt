@@ -18,7 +18,8 @@ returns-in_err-values c =
     let there : Ok c.in_ok-block.block ≡ reached r.exchange c.args.signal c.args.to (sight_of r s) = search rules in
     let values : Err f ≡ values_of c.args.values.now [] (sight_of r s) = search rules in
     let gave : c.from_residual-in_err-values.result ≡ Err (stop.Fault f) = search rules in
-    answered (does r.exchange r.own.point (stmt.Send c.args.signal c.args.to c.args.values.now c.args.fresh) r.todo) r s c.from_residual-in_err-values.result (Err (stop.Fault f)) r s gave
+    answered (does r.exchange r.own.point (stmt.Send c.args.signal c.args.to c.args.values.now c.args.fresh) r.todo) r s
+    c.from_residual-in_err-values.result (Err (stop.Fault f)) r s gave
     (send_stops r s c.args.signal c.args.to c.args.values.now c.args.fresh c.in_ok-block.block f (stop.Fault f) there values refl)
 
 pub returns : goal.returns
@@ -27,4 +28,5 @@ returns c =
     let s : List ℕ = c.args.store.now in
     let there : Ok c.in_ok-block.block ≡ reached r.exchange c.args.signal c.args.to (sight_of r s) = search rules in
     let values : Ok c.in_ok-values.values ≡ values_of c.args.values.now [] (sight_of r s) = search rules in
-    send_goes r s c.args.signal c.args.to c.args.values.now c.args.fresh c.in_ok-block.block c.in_ok-values.values c.send_to.result c.send_to.new.self there values c.send_to.ensures
+    send_goes r s c.args.signal c.args.to c.args.values.now c.args.fresh c.in_ok-block.block c.in_ok-values.values
+    c.send_to.result c.send_to.new.self there values c.send_to.ensures
