@@ -1,11 +1,14 @@
 -- What is made for one entry after the other.
-use Rattle.std.proofs.Common.{◌≡◌, ◌⊎◌, ◌↔◌, inl, inr, ⊎_elim, ℕ, Bool, true, false, nat_lt, ◌+◌}
-use Rattle.std.proofs.Common.{◌<◌, ◌≤◌, List, [], ◌∷◌, ◌++◌, length, map, Option, Some, None}
-use Rattle.std.proofs.Common.{slice_get, Contains, refl, sym, ap, ◌∙◌, subst, arith, length-append}
+use Rattle.std.specs.Prelude.{◌/◌}
+use Rattle.std.proofs.Common.{◌≡◌, ◌⊎◌, ◌↔◌, inl, inr, ⊎_elim, ℕ, suc, Bool, true, false, nat_lt}
+use Rattle.std.proofs.Common.{◌+◌, ◌*◌, ◌<◌, ◌≤◌, List, [], ◌∷◌, ◌++◌, length, map, Option, Some}
+use Rattle.std.proofs.Common.{None, slice_get, Contains, refl, sym, ap, ◌∙◌, subst, arith}
+use Rattle.std.proofs.Common.{length-append}
 use Rattle.std.proofs.lemmas.List.Elements.{Contains-append_left, Contains-append_right}
 use Rattle.std.proofs.lemmas.List.Elements.{Contains-append_cases}
 use Rattle.std.proofs.lemmas.Option.{none-some, slice_get_within}
 use Rattle.std.specs.List.Sorted.{IsStrictlySortedBy}
+use Rattle.std.proofs.Math.Nat.{mul-le-mul_right, suc-mul}
 use Rattle.std.proofs.lemmas.Bool.{ltb-true, ltb-false}
 use Rattle.plex_num.proofs.Lists.{get_push}
 use Rattle.exchange_model.specs.declared.exchange.Exchange.{Exchange}
@@ -21,7 +24,9 @@ use Rattle.fact_list.proofs.Ordering.{entry_less}
 use Rattle.least_facts.specs.declared.looks.Looked.{Looked}
 use Rattle.least_facts.specs.declared.looks.Looked.TheVariants.{Whole, Over}
 use Rattle.least_facts.specs.Least.{KnowLeast}
-use Rattle.least_facts.specs.Looks.{FindsWithin, IsOver}
+use Rattle.least_facts.specs.Giving.{IsOwnLeast}
+use Rattle.least_facts.specs.Looks.{FindsWithin, HasFacts, IsOverBy}
+use Rattle.least_facts.proofs.Telling.{facts_as, facts_both, no_facts}
 use Rattle.entry_summary.specs.declared.summary.Access.{Access}
 use Rattle.entry_summary.specs.declared.summary.Summary.{Summary}
 use Rattle.entry_accesses.specs.Listed.{ListsWithin}
@@ -29,12 +34,15 @@ use Rattle.entry_accesses.specs.declared.listed.Listed.{Listed}
 use Rattle.entry_accesses.specs.declared.listed.Listed.TheVariants as listed
 use Rattle.entry_summary.specs.Summaries.{IsSummary}
 use Rattle.access_summary.specs.declared.looks.Excess.{Excess}
+use Rattle.access_summary.specs.declared.looks.Excess.TheVariants.{ForOne, InAll}
+use Rattle.access_summary.specs.declared.looks.TheConstants.{PART_OF_ENTRY, POINTS_OF_LOOK}
 use Rattle.access_summary.specs.declared.looks.FewOrMany.{FewOrMany}
 use Rattle.access_summary.specs.declared.looks.FewOrMany.TheVariants.{Few, Many}
 use Rattle.certificate_meaning.specs.Summaries.{AreSummaries}
 use Rattle.access_summary.specs.declared.looks.Summed.{Summed}
 use Rattle.access_summary.specs.declared.looks.Summed.TheVariants as summed
-use Rattle.access_summary.specs.Looks.{ComeWithin, SumsWithin, left_of, most_of}
+use Rattle.access_summary.specs.Looks.{ComeWithin, HasWork, IsExcess, IsPast, SumsBy, SumsWithin}
+use Rattle.access_summary.specs.Looks.{most_of}
 use Rattle.certificate_meaning.proofs.Alike.{summary_alike}
 
 -- the statements that are reached, as a slice of the list
@@ -83,12 +91,21 @@ summaries_end x n count all is low high g = (let h = g.long in record { each_ent
 
 -- what a search ends with
 
-pub all_found : {F : Type 0} (bound : Option ℕ) (o : Looked) (looks : ℕ) → o ≡ Whole looks → FindsWithin bound F o → F
-all_found {F = F} bound o looks is h = subst (FindsWithin bound F) is h
+pub all_found : {F : Type 0} (P : Fact → Type 0) (bound : Option ℕ) (o : Looked) (looks : ℕ) → o ≡ Whole looks → FindsWithin P bound F o → F
+all_found {F = F} P bound o looks is h = subst (FindsWithin P bound F) is h
 
-pub passed_one : (P : Summary → Type 0) (most bound : Option ℕ) (before : ℕ) (o : Summed) (looks : ℕ)
-    → bound ≡ most_of most before → o ≡ summed.Over looks → SumsWithin bound P o → IsOver (most_of most before) looks
-passed_one P most bound before o looks same is h = subst (λ b. IsOver b looks) same (subst (SumsWithin bound P) is h)
+pub found_over : (F : Type 0) (P : Fact → Type 0) (bound : Option ℕ) (o : Looked) (looks : ℕ) → o ≡ Over looks
+    → FindsWithin P bound F o → IsOverBy P bound looks
+found_over F P bound o looks is h = subst (FindsWithin P bound F) is h
+
+pub passed_one : (P : Fact → Type 0) (Is : Summary → Type 0) (most bound : Option ℕ) (before : ℕ) (o : Summed)
+    (looks : ℕ) → bound ≡ most_of most before → o ≡ summed.Over looks → SumsBy P bound Is o
+    → IsOverBy P (most_of most before) looks
+passed_one P Is most bound before o looks same is h = subst (λ b. IsOverBy P b looks) same (subst (SumsBy P bound Is) is h)
+
+pub whole_by : (P : Fact → Type 0) (Is : Summary → Type 0) (bound : Option ℕ) (o : Summed) (s : Summary) (looks : ℕ)
+    → o ≡ summed.Whole s looks → SumsBy P bound Is o → Is s × HasFacts P looks
+whole_by P Is bound o s looks is h = subst (SumsBy P bound Is) is h
 
 pub accesses_found : (P : List Access → Type 0) (most : Option ℕ) (o : Listed) (accesses : List Access) (met : ℕ)
     → o ≡ listed.Whole accesses met → ListsWithin most P o → P accesses
@@ -97,9 +114,70 @@ accesses_found P most o accesses met is h = subst (ListsWithin most P) is h
 pub summary_found : (P : Summary → Type 0) (most : Option ℕ) (o : Summed) (s : Summary) (looks : ℕ) → o ≡ summed.Whole s looks → SumsWithin most P o → P s
 summary_found P most o s looks is h = subst (SumsWithin most P) is h
 
-pub passed_two : (P : Summary → Type 0) (most left : Option ℕ) (o : Summed) (looks met : ℕ) → left ≡ left_of most looks
-    → o ≡ summed.Over met → SumsWithin left P o → IsOver (left_of most looks) met
-passed_two P most left o looks met same is h = subst (λ b. IsOver b met) same (subst (SumsWithin left P) is h)
+-- the looks for so many entries
+
+-- a least fact of the first so many entries
+pub record IsLeastBelow (x : Exchange) (n : ℕ) (f : Fact) : Type 0 where
+  pub entry : f.entry < n
+  pub least : IsLeast x f
+
+abbrev pub WorkGoes : Exchange → ℕ → ℕ → Type 0
+WorkGoes x n before = HasWork x n (IsLeastBelow x n) before
+
+pub work_begin : (x : Exchange) → WorkGoes x 0 0
+work_begin x = record { own = 0; found = no_facts (IsLeastBelow x 0); enough = omega arith }
+
+both_entries : (x : Exchange) (n a b : ℕ) → HasFacts (IsLeastBelow x n) a → HasFacts (IsOwnLeast x n) b → HasFacts (IsLeastBelow x (n + 1)) (a + b)
+both_entries x n a b = facts_both (IsLeastBelow x n) (IsOwnLeast x n) (IsLeastBelow x (n + 1)) a b (a + b) (omega arith)
+    (λ f g. record { entry = (let lt = g.entry in omega (arith, lt)); least = g.least })
+    (λ f g. record { entry = (let is = g.entry in omega (arith, is)); least = g.least })
+    (λ f g before own. entry_less f g (let lt = before.entry in let is = own.entry in omega (arith, lt, is)))
+
+room_of : (own before looks points new more room : ℕ) → before ≤ own + room → new ≤ before + looks + more → more ≤ points → new ≤ own + looks + (points + room)
+room_of own before looks points new more room enough sum le = omega (arith, enough, sum, le)
+
+pub work_more : (x : Exchange) (n before looks new more : ℕ) → more ≤ length x.points / POINTS_OF_LOOK
+    → new ≤ before + looks + more → HasFacts (IsOwnLeast x n) looks → WorkGoes x n before → WorkGoes x (n + 1) new
+work_more x n before looks new more le sum own g = record {
+  own = g.own + looks;
+  found = both_entries x n g.own looks g.found own;
+  enough = subst (λ r. new ≤ g.own + looks + r) (sym (one_more n (length x.points / POINTS_OF_LOOK)))
+      (room_of g.own before looks (length x.points / POINTS_OF_LOOK) new more (n * (length x.points / POINTS_OF_LOOK)) g.enough sum le);
+}
+  where
+    swap : (a b : ℕ) → a + b ≡ b + a
+    swap a b = omega arith
+
+    one_more : (k r : ℕ) → (k + 1) * r ≡ r + k * r
+    one_more k r = (let up : k + 1 ≡ suc k = omega arith in ap (λ m. m * r) up ∙ suc-mul k r ∙ swap (k * r) r)
+
+pub same_part : (n m : ℕ) → n ≡ m → n / POINTS_OF_LOOK ≤ m / POINTS_OF_LOOK
+same_part n m same = subst (λ k. n / POINTS_OF_LOOK ≤ k / POINTS_OF_LOOK) same (omega arith)
+
+-- more than there may be
+
+pub is_past : (x : Exchange) (most : Option ℕ) (before looks n : ℕ) (excess : Excess)
+    → IsExcess most before looks excess → n < length x.entries → HasFacts (IsOwnLeast x n) looks → WorkGoes x n before
+    → IsPast x most excess
+is_past x None before looks n excess over lt own g = absurd over
+is_past x (Some most) before looks n (ForOne all) over lt own g =
+    (subst (λ k. most < k * PART_OF_ENTRY) (sym over.0) over.1, record { entry = n; found = subst (HasFacts (IsOwnLeast x n)) (sym over.0) own })
+is_past x (Some most) before looks n (InAll first last) over lt own g =
+    let same : first + last ≡ before + looks = (λ i. over.0 i + over.1 i) in
+    let all : WorkGoes x (n + 1) (before + looks) = work_more x n before looks (before + looks) 0 (omega arith) (omega arith) own g in (
+      subst (λ k. most < k) (sym same) over.2,
+      subst (HasWork x (length x.entries) (IsLeast x)) (sym same) (record {
+        own = all.own;
+        found = facts_as (IsLeastBelow x (n + 1)) (IsLeast x) all.own all.own (omega arith) (λ f h. h.least) all.found;
+        enough =
+            (let le = all.enough in
+            let many = mul-le-mul_right (length x.points / POINTS_OF_LOOK) (let up : n + 1 ≤ length x.entries = omega (arith, lt) in up) in
+            grow (before + looks) all.own ((n + 1) * (length x.points / POINTS_OF_LOOK)) (length x.entries * (length x.points / POINTS_OF_LOOK)) le many);
+      }),
+    )
+  where
+    grow : (n own a b : ℕ) → n ≤ own + a → a ≤ b → n ≤ own + b
+    grow n own a b le many = omega (arith, le, many)
 
 -- where there is no bound, summaries come
 

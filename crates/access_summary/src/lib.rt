@@ -10,5 +10,5 @@ mod looks;
 mod summary;
 
 pub use least::{least_facts, summaries_if_few, summaries_of};
-pub use looks::{Excess, FewOrMany, PART_OF_ENTRY};
+pub use looks::{Excess, FewOrMany, PART_OF_ENTRY, POINTS_OF_LOOK};
 pub use summary::summary_of;

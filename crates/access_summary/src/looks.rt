@@ -7,6 +7,9 @@ use kept_summaries::Summaries;
 /// bytes for each.
 pub const PART_OF_ENTRY: usize = 16;
 
+/// So many points of the table are gone over for an entry in the time of a look at a fact.
+pub const POINTS_OF_LOOK: usize = 6;
+
 /// The summary of an entry, for which there may be so many looks.
 #[derive(Drop)]
 pub enum Summed {
@@ -25,12 +28,14 @@ pub enum FewOrMany {
     Many(Excess),
 }
 
-/// The looks that are more than there may be.
+/// The looks that are more than there may be. No more are told than `LOOKS_OF_FACT` of
+/// `least_facts` for each least fact that was found, and one for each `POINTS_OF_LOOK` points and
+/// each entry.
 #[derive(Clone, Copy)]
 pub enum Excess {
     /// In all: so many for the entries before one, with the time that its table takes, and so many
     /// for that one.
     InAll { before: usize, looks: usize },
-    /// For one entry, for which there may be a sixteenth of them: so many.
+    /// For one entry, for which there may be a sixteenth of them: so many, for its own facts alone.
     ForOne { looks: usize },
 }

@@ -50,10 +50,11 @@ use Rattle.certificate_meaning.specs.Summaries.{AreSummaries}
 use Rattle.checked.specs.Belonging.{IsOfExchange, IsValueOfEntry}
 use Rattle.certificate_faults.proofs.Firsts.{count_some}
 use Rattle.finite_facts.proofs.Facts.{least_facts}
+use Rattle.access_summary.specs.declared.looks.Excess.{Excess}
 use Rattle.certificate_check.specs.declared.own.Own.{Own}
-use Rattle.certificate_check.specs.declared.own.Own.TheVariants.{Kept}
+use Rattle.certificate_check.specs.declared.own.Own.TheVariants.{Kept, Many}
 use Rattle.checked.specs.Kept.{AreSummariesBy, IsChecked, KeptSummaries}
-use Rattle.certificate_check.specs.Own.{AreOwn, IsOwn}
+use Rattle.certificate_check.specs.Own.{AreOwn, IsGivenUp, IsOwn}
 use Rattle.certificate_check.proofs.Summing.{summaries_alike}
 
 -- sources that give no value of the start but those that a slot has
@@ -271,3 +272,8 @@ module _ (x : Exchange) where
 -- what is kept of the exchange's own certificate is of the exchange
 pub kept_is_checked : (x : Exchange) (looks : ℕ) (o : Own) (k : KeptSummaries) → o ≡ Kept k → IsOwn x looks o → IsChecked x k
 kept_is_checked x looks o k is own = (let kept : AreOwn x k = subst (IsOwn x looks) is own in kept.checked)
+
+-- nothing is kept only where the analysis was given up
+
+pub given_up : (x : Exchange) (looks : ℕ) (o : Own) (excess : Excess) → IsOwn x looks o → o ≡ Many excess → IsGivenUp x looks
+given_up x looks o excess h is = record { excess = excess; past = subst (IsOwn x looks) is h }

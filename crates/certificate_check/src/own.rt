@@ -23,7 +23,8 @@ pub enum Own {
 /// What the exchange's own certificate says of the entries: the summary of each by the least facts,
 /// which are found once and need no second look. Where more than so many looks at facts, about, are
 /// wanted, in all or for one entry, for which there may be a sixteenth of them, it tells how many
-/// were made. Memory is the only reason for an error.
+/// were made, no more than there may be for the least facts that were found. Memory is the only
+/// reason for an error.
 pub fn keep_own_if_few(alloc: Global, exchange: &Exchange, looks: usize) -> Result<Own, Memory>
     ensures { IfOk result (IsOwn exchange.now looks) }
 {

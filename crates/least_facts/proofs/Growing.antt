@@ -725,12 +725,13 @@ module _ (x : Exchange) (t : FlowTable) (a : AnswerTable) (e : ℕ) where
 
 -- where there is no bound, all that is wanted is found
 
-pub found_always : {P : Type 0} (o : Looked) → FindsWithin None P o → P
-found_always (Whole looks) found = found
-found_always (Over looks) none = absurd none
+pub found_always : {P : Type 0} (F : Fact → Type 0) (o : Looked) → FindsWithin F None P o → P
+found_always F (Whole looks) found = found
+found_always F (Over looks) over = absurd over.0
 
 pub learned_or_over : (x : Exchange) (t : FlowTable) (e : ℕ) (a : Analyser) (most : Option ℕ) (o : Looked)
-    → FindsWithin most (AreFound x t e a.rows) o → FindsWithin most (HasLearned x e a) o
+    → FindsWithin (IsOwnLeast x e) most (AreFound x t e a.rows) o
+    → FindsWithin (IsOwnLeast x e) most (HasLearned x e a) o
 learned_or_over x t e a most (Whole looks) found = record { rows = record { exact = found.exact } }
 learned_or_over x t e a most (Over looks) over = over
 

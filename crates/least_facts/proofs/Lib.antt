@@ -5,3 +5,4 @@ pub mod Filling
 pub mod Growing
 pub mod Flowing
 pub mod Placing
+pub mod Telling

@@ -7,9 +7,11 @@ ghost use Rattle.flow_points.specs.Facts.{IsLeast};
 ghost use Rattle.flow_points.specs.Orders.{fact_order};
 ghost use Rattle.flow_table.specs.Rows.{IsFlowTable};
 ghost use Rattle.exchange_model.specs.declared.exchange.Exchange.{Exchange as ExchangeType};
+ghost use Rattle.least_facts.specs.Giving.{IsOwnLeast};
 ghost use Rattle.least_facts.specs.Least.{HasLearned, IsFor, KnowLeast};
-ghost use Rattle.least_facts.specs.Looks.{FindsWithin};
+ghost use Rattle.least_facts.specs.Looks.{FindsWithin, HasFacts};
 
+use crate::counting::looks_for_facts;
 use crate::finding::find;
 use crate::looks::Looked;
 use crate::order::{Place, order_of};
@@ -53,8 +55,9 @@ impl Analyser {
     }
 
     /// Learns the least facts of an entry, in place of what it has learned before. Where there is a
-    /// bound, `most`, and more slots than that were looked at, it is `Over`, and nothing of use is
-    /// learned. After `Memory` the analyser is of no more use.
+    /// bound, `most`, and more slots than that were looked at, of which no more are told than
+    /// `LOOKS_OF_FACT` for each fact that was found, it is `Over`, and nothing of use is learned.
+    /// After `Memory` the analyser is of no more use.
     pub fn learn(
         &mut self,
         alloc: Global,
@@ -65,7 +68,8 @@ impl Analyser {
     ) -> Result<Looked, Memory>
         requires table { IsFlowTable exchange.now table.now }
         requires own { IsFor exchange.now table.now self.old }
-        ensures learned { IfOk result (FindsWithin most (HasLearned exchange.now entry self.new)) }
+        ensures learned { IfOk result (FindsWithin (IsOwnLeast exchange.now entry) most
+            (HasLearned exchange.now entry self.new)) }
         ensures own { OnOk result (IsFor exchange.now table.now self.new) }
     {
         let setting = Setting {
@@ -85,6 +89,16 @@ impl Analyser {
         ensures { (x : ExchangeType) (e : ℕ) → HasLearned x e self.now → KnowLeast x e result.now }
     {
         &self.rows
+    }
+
+    /// The looks that are told where so many were made: no more than `LOOKS_OF_FACT` for each fact
+    /// that it has learned. Memory is the only reason for an error.
+    pub fn told(&self, alloc: Global, looks: usize) -> Result<usize, Memory>
+        ensures { IfOk result (λ told. (x : ExchangeType) (e : ℕ) → HasLearned x e self.now
+            → HasFacts (IsOwnLeast x e) told) }
+    {
+        let told = looks_for_facts(alloc, &self.rows, looks)?;
+        Ok(told)
     }
 
     /// The least facts of an entry, in order. After `Memory` the analyser is of no more use.

@@ -1,5 +1,5 @@
 // The search for what follows from nothing.
-ghost use Rattle.std.specs.Prelude.{◌≡◌, ◌∷◌, ℕ, Some, IfOk, IsTrue, OnOk};
+ghost use Rattle.std.specs.Prelude.{◌≡◌, ◌∷◌, ℕ, Some, IfOk, OnOk};
 ghost use Rattle.std.specs.List.{Contains};
 ghost use Rattle.flow_points.specs.declared.fact.Fact.{Fact as FactType};
 ghost use Rattle.flow_points.specs.Places.{IsRetrieveAt};
@@ -12,10 +12,11 @@ ghost use Rattle.least_facts.specs.Giving.{IsOwnLeast};
 ghost use Rattle.answer_table.specs.Answers.{IsFact, answer_way};
 ghost use Rattle.least_facts.specs.Growing.{AreFound, HandedFrom, IsHandedBy, IsVisited, Searches};
 ghost use Rattle.least_facts.specs.Growing.{WaySends, handing_of, search_of, without};
-ghost use Rattle.least_facts.specs.Looks.{FindsWithin, IsOver};
+ghost use Rattle.least_facts.specs.Looks.{FindsWithin};
 ghost use Rattle.least_facts.specs.Marks.{marks_of};
 ghost use Rattle.least_facts.specs.Settings.{IsGoodIn, IsSetting, StandsIn, WentIn};
 
+use crate::counting::over_by_now;
 use crate::giving::{give_point, slot_count};
 use crate::looks::Looked;
 use crate::marks::{Change, Marked, first_of, is_noted, settle, take};
@@ -30,7 +31,7 @@ use std::alloc::Global;
 
 /// Finds the least facts of an entry, so that the rows know these and no others. Where there is a
 /// bound, `most`, and more slots than that were looked at, it is `Over`, and the rows know some of
-/// them.
+/// them; no more looks are told than there may be for these.
 pub(crate) fn find(
     setting: &Setting<'_>,
     most: Option<usize>,
@@ -39,8 +40,8 @@ pub(crate) fn find(
     requires setting { IsSetting setting.now }
     requires slots { rows.old.marks.slots ≡ slots_of setting.now.table.now }
     ensures found { IfOk result
-        (FindsWithin most (AreFound setting.now.exchange.now setting.now.table.now
-        setting.now.entry rows.new)) }
+        (FindsWithin (IsOwnLeast setting.now.exchange.now setting.now.entry) most
+        (AreFound setting.now.exchange.now setting.now.table.now setting.now.entry rows.new)) }
     ensures slots { OnOk result (rows.new.marks.slots ≡ slots_of setting.now.table.now) }
 {
     let exchange = setting.exchange;
@@ -59,24 +60,15 @@ pub(crate) fn find(
     let begun = facts.as_slice();
     add_all(setting, begun, rows, &mut marked)?;
     let mut looks: usize = 0;
+    let mut next: usize = 0;
     while let Some(point) = take(&mut marked) {
-        if is_over(most, looks) {
+        if let Some(looks) = over_by_now(setting.alloc, &*rows, most, looks, &mut next)? {
             return Ok(Looked::Over { looks });
         }
         let more = visit(setting, point, rows, &mut marked)?;
         looks = looks.saturating_add(more);
     }
     Ok(Looked::Whole { looks })
-}
-
-/// Whether there is a bound, and more slots were looked at.
-fn is_over(most: Option<usize>, looks: usize) -> bool
-    ensures { IsTrue result → IsOver most looks }
-{
-    match most {
-        Some(most) => looks > most,
-        None => false,
-    }
 }
 
 /// Adds these facts, and marks where something new came to be known.

@@ -8,6 +8,7 @@
 #![tactic(auto)]
 
 mod analyser;
+mod counting;
 mod finding;
 mod giving;
 mod looks;
@@ -16,4 +17,5 @@ mod order;
 mod setting;
 
 pub use analyser::{Analyser, facts_of};
-pub use looks::Looked;
+pub use counting::is_over;
+pub use looks::{LOOKS_OF_FACT, Looked};

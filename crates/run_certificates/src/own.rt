@@ -1,8 +1,9 @@
 // A run goes on by code for as long as its jobs are short.
-ghost use Rattle.std.specs.Prelude.{IfOk, IfSome};
+ghost use Rattle.std.specs.Prelude.{IfOk, MatchOption};
 ghost use Rattle.store_layout.specs.Laid.{IsLayout};
 ghost use Rattle.machine_meaning.specs.Faithful.{Faithful};
 ghost use Rattle.checked.specs.Kept.{IsChecked};
+ghost use Rattle.certificate_check.specs.Own.{IsGivenUp};
 ghost use Rattle.exchange_run.specs.Runs.{MayGoOn, state_of};
 ghost use Rattle.run_certificates.specs.Growth.{HasGrown};
 
@@ -70,10 +71,13 @@ pub fn until_long<G: Gate>(
     Ok(Grown::Over(end))
 }
 
-/// What is kept of the exchange's own certificate; nothing where it takes more looks. Memory is the
-/// only reason for an error.
+/// What is kept of the exchange's own certificate; nothing where it takes more looks, and there are
+/// least facts for them. Memory is the only reason for an error.
+#[tactic(auto, using(certificate_check::proofs::Owning::given_up))]
 fn kept_within(alloc: Global, exchange: &Exchange, looks: usize) -> Result<Option<Checked>, Memory>
-    ensures { IfOk result (λ kept. IfSome kept (IsChecked exchange.now)) }
+    ensures { IfOk result (λ kept. MatchOption kept
+        (IsGivenUp exchange.now looks)
+        (IsChecked exchange.now)) }
 {
     match keep_own_if_few(alloc, exchange, looks)? {
         Own::Kept(checked) => Ok(Some(checked)),

@@ -4,6 +4,7 @@ use Rattle.least_facts.specs.Growing.{Searches, search_of}
 use Rattle.least_facts.specs.Marks.{marks_of}
 use Rattle.least_facts.proofs.Growing.{begun_least, begun_searches, begun_stands, found_all}
 use Rattle.least_facts.proofs.Growing.{visit_less}
+use Rattle.least_facts.proofs.Telling.{least_over}
 use Rattle.least_facts.proofs.Marking.{none_taken, taken}
 use Rattle.least_facts.proofs.finding.find.Goals as goal
 
@@ -52,11 +53,13 @@ loop-point-smaller c =
     (search_of c.visit.new.rows c.visit.new.marked) c.in-Some.point (marks_of c.loop-point.marked)
     (taken c.take.result c.in-Some.point (marks_of c.loop-point.marked) (marks_of c.take.new.marked) c.in-Some.is c.take.ensures.takes) c.in_ok-more.ensures
 
-pub returns-then-is_over-clause-found : goal.returns-then-is_over-clause-found
-returns-then-is_over-clause-found c = c.is_over.ensures c.if-is_over.true
+pub returns-in-Some-2-clause-found : goal.returns-in-Some-2-clause-found
+returns-in-Some-2-clause-found c = least_over c.args.setting.now.exchange.now c.args.setting.now.table.now
+    c.args.setting.now.entry (search_of c.loop-point.rows c.loop-point.marked) c.args.most _ c.in-Some-2.looks
+    c.loop-point.invariant.stands c.in-Some-2.is c.in_ok-looks.ensures
 
-pub returns-then-is_over-clause-slots : goal.returns-then-is_over-clause-slots
-returns-then-is_over-clause-slots c = c.loop-point.invariant.stands.of_slots
+pub returns-in-Some-2-clause-slots : goal.returns-in-Some-2-clause-slots
+returns-in-Some-2-clause-slots c = c.loop-point.invariant.stands.of_slots
 
 pub returns-clause-found : goal.returns-clause-found
 returns-clause-found c =
