@@ -10,9 +10,13 @@ use Rattle.command_words.specs.Words.{Word, shape}
 use Rattle.answer_meaning.specs.Outcome.{Out, not_held}
 use Rattle.answer_meaning.specs.Stages.{IsRefusal, Performs, ReadAs}
 use Rattle.answer_meaning.specs.Answer.{IsAnswer, IsAnswerBy, answer_of, performed, usage_answer}
-use Rattle.answer_meaning.specs.Program.{Answers, ProcessEnds, ProcessEndsAs, IsComplete, IsEnding}
-use Rattle.answer_meaning.specs.Program.{IsMade, WritesText, Makes, ReadCause, WriteCause}
-use Rattle.answer_meaning.specs.Program.{IsWritten}
+use Rattle.answer_meaning.specs.Program.{Answers, FitsFault, ProcessEnds, ProcessEndsAs, IsComplete}
+use Rattle.answer_meaning.specs.Program.{IsEnding, IsMade, TellsFault, WritesText, Makes, ReadCause}
+use Rattle.answer_meaning.specs.Program.{WriteCause, IsWritten}
+use Rattle.answer_meaning.specs.Text.{IsRefusalOf, certificate_refusal, filter_refusal}
+use Rattle.answer_meaning.specs.Text.{signals_refusal, source_refusal, table_refusal}
+use Rattle.answer_meaning.specs.declared.fault.FileFault.{FileFault}
+use Rattle.answer_meaning.specs.declared.fault.FileFault.TheVariants as file
 use Rattle.command_words.specs.declared.command.Command.{Command}
 use Rattle.answer_meaning.specs.declared.answer.Answer.{Answer}
 use Rattle.answer_meaning.specs.declared.answer.Stop.{Stop}
@@ -22,7 +26,7 @@ use Rattle.command_words.specs.declared.status.Status.TheVariants as status
 use Rattle.answer_meaning.proofs.Stages.{performs_as, performs_told}
 use Rattle.std.proofs.lemmas.List.{length-take, length-append}
 use Rattle.plex_io.specs.Steady.{SteadyState}
-use Rattle.plex_io.specs.Written.{WroteLess}
+use Rattle.plex_io.specs.Written.{WroteLess, appended}
 use Rattle.answer_meaning.specs.Whole.{HasRoom, IsWhole}
 
 IsSomething : Option Command → Type 0
@@ -110,7 +114,6 @@ plain_ending : (s : Status) → IsEnding s → WritesText s
 plain_ending status.Done e = tt
 plain_ending status.Restart e = tt
 plain_ending status.Limit e = tt
-plain_ending status.Change e = tt
 plain_ending s e = absurd e
 
 -- that of a refusal
@@ -120,25 +123,56 @@ plain_refusal status.Signals e = tt
 plain_refusal status.Certificate e = tt
 plain_refusal status.Table e = tt
 plain_refusal status.Filter e = tt
+plain_refusal status.Change e = tt
 plain_refusal s e = absurd e
 
-pub made_ending : (Unshaped : Type 0) (usage_line a : Answer) → (Unshaped → ⊥) → IsEnding a.status → IsMade Unshaped usage_line a
-made_ending Unshaped usage_line a shaped is = record
-    { plain = plain_ending a.status is; usage = λ u. absurd (subst IsEnding u is); unshaped = λ no. absurd (shaped no) }
+-- the status of a run is that of no refusal
+no_refusal : (s : Status) → IsEnding s → ¬ (IsRefusal s)
+no_refusal status.Done e = λ r. r
+no_refusal status.Restart e = λ r. r
+no_refusal status.Limit e = λ r. r
+no_refusal s e = absurd e
 
-pub made_refusal : (Unshaped : Type 0) (usage_line a : Answer) → (Unshaped → ⊥) → IsRefusal a.status → IsMade Unshaped usage_line a
-made_refusal Unshaped usage_line a shaped is = record {
-  plain = plain_refusal a.status is;
-  usage = λ u. absurd (subst IsRefusal u is);
+-- the status of the refusal of a fault
+refusal_status : (f : FileFault) (a : Answer) → IsRefusalOf f a → IsRefusal a.status
+unfolding source_refusal signals_refusal certificate_refusal table_refusal filter_refusal
+refusal_status (file.Source which f) a is = subst (λ (b : Answer). IsRefusal b.status) is tt
+refusal_status (file.Signals f) a is = subst (λ (b : Answer). IsRefusal b.status) is tt
+refusal_status (file.Certificate f) a is = subst (λ (b : Answer). IsRefusal b.status) is tt
+refusal_status (file.Table f) a is = subst (λ (b : Answer). IsRefusal b.status) is tt
+refusal_status (file.Filter f) a is = subst (λ (b : Answer). IsRefusal b.status) is tt
+refusal_status (file.Change m) a is = subst (λ (b : Answer). IsRefusal b.status) is.1 tt
+
+pub made_ending : (Unshaped : Type 0) (usage_line a : Answer) → (Unshaped → ⊥) → IsEnding a.status → IsMade Unshaped usage_line a None
+made_ending Unshaped usage_line a shaped is = record {
+  plain = plain_ending a.status is;
+  usage = λ u. absurd (subst IsEnding u is);
   unshaped = λ no. absurd (shaped no);
+  fits = no_refusal a.status is;
 }
+
+pub made_refusal : (Unshaped : Type 0) (usage_line a : Answer) (f : FileFault) → (Unshaped → ⊥) → IsRefusalOf f a → IsMade Unshaped usage_line a (Some f)
+made_refusal Unshaped usage_line a f shaped is =
+    let refused : IsRefusal a.status = refusal_status f a is in
+    record {
+      plain = plain_refusal a.status refused;
+      usage = λ u. absurd (subst IsRefusal u refused);
+      unshaped = λ no. absurd (shaped no);
+      fits = is;
+    }
+
+-- the answer was written whole, and its fault is told
+pub fault_written : (f : Option FileFault) (a : Answer) (before after : Option (List ℕ)) → FitsFault f a
+    → after ≡ appended before a.text → TellsFault before after a.status f
+fault_written None a before after fits text = fits
+fault_written (Some f) a before after fits text = record { answer = a; is = fits; written = record { status = refl; text = text } }
 
 -- the answer of a stage is that of an ending or of a refusal
 pub makes_told : (Unshaped : Type 0) (usage_line : Answer) (held : Option Files) (work : Files → Out Answer → Type 0)
     (b a : ℕ) (r : Result Answer Stop) → (Unshaped → ⊥) → Performs held work b a r → IfOk r (λ a. IsEnding a.status)
     → Makes Unshaped usage_line r
 makes_told Unshaped usage_line held work b a (Ok v) shaped p ends = made_ending Unshaped usage_line v shaped ends
-makes_told Unshaped usage_line held work b a (Err (stop.Told v)) shaped p ends = made_refusal Unshaped usage_line v shaped p.stops.0
+makes_told Unshaped usage_line held work b a (Err (stop.Told v f)) shaped p ends = made_refusal Unshaped usage_line v f shaped p.stops.0
 makes_told Unshaped usage_line held work b a (Err stop.NotHeld) shaped p ends = tt
 makes_told Unshaped usage_line held work b a (Err stop.Failed) shaped p ends = tt
 makes_told Unshaped usage_line held work b a (Err stop.Memory) shaped p ends = tt
@@ -151,8 +185,14 @@ makes_command held words c b a r e p ends = makes_told (shape words ≡ None) us
 pub makes_usage : (Unshaped : Type 0) (a : Answer) (r : Result Answer Stop) → Unshaped → a.status ≡ status.Usage → ReadAs (Ok a) r → Makes Unshaped a r
 makes_usage Unshaped a (Ok v) none usage reads =
     let same : a ≡ v = same_Some a v (ap result_ok reads) in
-    record { plain = subst (λ (x : Answer). WritesText x.status) same (subst WritesText (sym usage) tt); usage = λ u. none; unshaped = λ n. sym same }
-makes_usage Unshaped a (Err (stop.Told v)) none usage reads = absurd (none-some a (ap result_ok (sym reads.1)))
+    let status_is : v.status ≡ status.Usage = sym (ap (λ (x : Answer). x.status) same) ∙ usage in
+    record {
+      plain = subst WritesText (sym status_is) tt;
+      usage = λ u. none;
+      unshaped = λ n. sym same;
+      fits = λ r. subst IsRefusal status_is r;
+    }
+makes_usage Unshaped a (Err (stop.Told v f)) none usage reads = absurd (none-some a (ap result_ok (sym reads.1)))
 makes_usage Unshaped a (Err stop.NotHeld) none usage reads = tt
 makes_usage Unshaped a (Err stop.Failed) none usage reads = tt
 makes_usage Unshaped a (Err stop.Memory) none usage reads = tt

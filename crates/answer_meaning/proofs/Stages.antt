@@ -21,7 +21,8 @@ use Rattle.certificate_text.specs.declared.certificate.Certificate.{Certificate}
 use Rattle.certificate_text.specs.Lines.{HasBadLine, IsTextOf}
 use Rattle.checked.specs.Kept.{KeptSummaries}
 use Rattle.certificate_meaning.proofs.Judging.{accepted_is_checked}
-use Rattle.answer_meaning.specs.Text.{certificate_refusal}
+use Rattle.answer_meaning.specs.declared.fault.FileFault.{FileFault}
+use Rattle.answer_meaning.specs.Text.{IsRefusalOf, certificate_refusal}
 use Rattle.answer_meaning.specs.RunAnswer.{IsCertifiedRun}
 use Rattle.answer_meaning.specs.Certificates.{IsAcceptedOrNot, IsJudged, IsKeptOrNot, large, bad}
 use Rattle.answer_meaning.specs.Certificates.{read}
@@ -73,8 +74,8 @@ text_absent (Some files) name e = rw e refl
 stops_on : {A B : Type 0} (held : Option Files) (was : Files → Out A → Type 0) (work : Files → Out B → Type 0) (b a : ℕ)
     (e : Stop) → ((files : Files) (r : Answer) → was files (Err r) → work files (Err r)) → StopsBy held was b a e
     → StopsBy held work b a e
-stops_on None was work b a (stop.Told r) so s = (s.0, tt)
-stops_on (Some files) was work b a (stop.Told r) so s = (s.0, so files r s.1)
+stops_on None was work b a (stop.Told r f) so s = (s.0, tt)
+stops_on (Some files) was work b a (stop.Told r f) so s = (s.0, so files r s.1)
 stops_on None was work b a stop.NotHeld so s = s
 stops_on (Some files) was work b a stop.NotHeld so s = so files not_held s
 stops_on held was work b a stop.Failed so s = s
@@ -96,8 +97,8 @@ went_on held f next work b m a v (Ok w) so c d = record { ok = by held c.ok d.ok
 went_on {A = A} {B = B} held f next work b m a v (Err e) so c d = record
     { ok = tt; stops = by held e c.ok c.later d.stops; later = omega (arith, c.later, d.later) } where
       by : (h : Option Files) (e : Stop) → IfSome h (λ files. f files ≡ Ok v) → b ≤ m → StopsBy {A = B} h next m a e → StopsBy {A = B} h work b a e
-      by None (stop.Told r) c le s = (s.0, tt)
-      by (Some files) (stop.Told r) c le s = (s.0, so files (Err r) c s.1)
+      by None (stop.Told r f) c le s = (s.0, tt)
+      by (Some files) (stop.Told r f) c le s = (s.0, so files (Err r) c s.1)
       by None stop.NotHeld c le s = s
       by (Some files) stop.NotHeld c le s = so files (Err not_held) c s
       by h stop.Failed c le s = omega (arith, le, s)
@@ -150,8 +151,8 @@ performs_go held f Go b m a v r c d = went_on held f (λ files. Go files v) (λ 
 pub performs_told : {A : Type 0} (held : Option Files) (Is : Out A → Type 0) (n : ℕ) (r : Result A Stop) → TellsOutcome Is r → Performs held (λ files. Is) n n r
 performs_told None Is n (Ok v) s = record { ok = tt; stops = tt; later = omega arith }
 performs_told (Some files) Is n (Ok v) s = record { ok = s; stops = tt; later = omega arith }
-performs_told None Is n (Err (stop.Told r)) s = record { ok = tt; stops = (s.0, tt); later = omega arith }
-performs_told (Some files) Is n (Err (stop.Told r)) s = record { ok = tt; stops = s; later = omega arith }
+performs_told None Is n (Err (stop.Told r f)) s = record { ok = tt; stops = (s.0, tt); later = omega arith }
+performs_told (Some files) Is n (Err (stop.Told r f)) s = record { ok = tt; stops = s; later = omega arith }
 performs_told held Is n (Err stop.NotHeld) s = absurd s
 performs_told held Is n (Err stop.Failed) s = absurd s
 performs_told held Is n (Err stop.Memory) s = record { ok = tt; stops = tt; later = omega arith }
@@ -172,7 +173,7 @@ pub ruleset performs_rules = (performs_stop, performs_go, performs_told, perform
 
 -- a text's refusal
 pub reads_stop : {A B : Type 0} (f : Out A) (g : A → Out B) (e : Stop) → ReadAs f (Err e) → ReadAs (goes_on f g) (Err e)
-reads_stop f g (stop.Told r) s = (s.0, on_err f g r s.1)
+reads_stop f g (stop.Told r k) s = (s.0, on_err f g r s.1)
 reads_stop f g stop.NotHeld s = s
 reads_stop f g stop.Failed s = s
 reads_stop f g stop.Memory s = tt
@@ -180,7 +181,7 @@ reads_stop f g stop.Memory s = tt
 -- a text's value, and what comes of it
 pub reads_go : {A B : Type 0} (f : Out A) (g : A → Out B) (v : A) (r : Result B Stop) → f ≡ Ok v → ReadAs (g v) r → ReadAs (goes_on f g) r
 reads_go f g v (Ok w) is s = on_ok f g v (Ok w) is s
-reads_go f g v (Err (stop.Told r)) is s = (s.0, on_ok f g v (Err r) is s.1)
+reads_go f g v (Err (stop.Told r k)) is s = (s.0, on_ok f g v (Err r) is s.1)
 reads_go f g v (Err stop.NotHeld) is s = s
 reads_go f g v (Err stop.Failed) is s = s
 reads_go f g v (Err stop.Memory) is s = tt
@@ -191,6 +192,10 @@ reads_memory f e is = subst (λ s. ReadAs f (Err s)) (sym is) tt
 pub reads_answer : {A : Type 0} (said v : A) → v ≡ said → ReadAs (Ok said) (Ok v)
 reads_answer said v is = ap Ok (sym is)
 
+-- the same of an outcome that is told by a relation
+pub told_memory : {A : Type 0} (Is : Out A → Type 0) (e : Stop) → e ≡ stop.Memory → TellsOutcome Is (Err e)
+told_memory Is e is = subst (λ s. TellsOutcome Is (Err s)) (sym is) tt
+
 pub ruleset reads_rules = (reads_stop, reads_go, reads_memory, reads_answer)
 
 -- the value of a file, or the stop of its first fault
@@ -198,7 +203,7 @@ pub refused_ok : {A F : Type 0} (by : F → Answer) (said : Result A F) (a : A) 
 refused_ok by said a is = ap (or_refused by) (sym is)
 
 pub refused_so : {A : Type 0} (said : Out A) (a : Answer) (s : Stop) → said ≡ Err a → IsStopOf a s → ReadAs said (Err s)
-refused_so said a (stop.Told b) is stops = (stops.0, is ∙ ap Err stops.1)
+refused_so said a (stop.Told b f) is stops = (stops.0, is ∙ ap Err stops.1)
 refused_so said a stop.NotHeld is stops = stops
 refused_so said a stop.Failed is stops = stops
 refused_so said a stop.Memory is stops = tt
@@ -211,10 +216,13 @@ pub ruleset refused_rules = (refused_ok, refused_fault, refused_so)
 
 -- the stop that a line of a refusal makes
 
-pub told_so : (s : Status) (said : List ℕ) (line : Result (List ℕ) Memory) (t : Stop) → IfOk line (λ text. text ≡ said)
-    → IsStopWith s line t → IsStopOf (record { status = s; text = said }) t
-told_so s said (Ok text) t is stops = subst (λ words. IsStopOf (record { status = s; text = words }) t) is stops
-told_so s said (Err m) t is stops = subst (IsStopOf (record { status = s; text = said })) (sym stops) tt
+pub told_so : (f : FileFault) (s : Status) (said : List ℕ) (line : Result (List ℕ) Memory) (t : Stop)
+    → IsRefusalOf f (record { status = s; text = said }) → IfOk line (λ text. text ≡ said) → IsStopWith f s line t
+    → IsStopOf (record { status = s; text = said }) t
+told_so f s said (Ok text) t refuses is stops =
+    let same : t ≡ stop.Told (record { status = s; text = said }) f = stops ∙ ap (λ words. stop.Told (record { status = s; text = words }) f) is in
+    subst (IsStopOf (record { status = s; text = said })) (sym same) (refuses, refl)
+told_so f s said (Err m) t refuses is stops = subst (IsStopOf (record { status = s; text = said })) (sym stops) tt
 
 -- a word of two pieces
 pub two_pieces : (old middle new first second : List ℕ) → middle ≡ old ++ first → new ≡ middle ++ second → new ≡ old ++ (first ++ second)
@@ -240,7 +248,7 @@ text_kept x text c (Err m) is verdict = tt
 pub certified_runs : (x : Exchange) (text : Option (List ℕ)) (a : Answer) (r : Result Answer Stop)
     → IsJudged x text None → ReadAs (Ok a) r → TellsOutcome (IsCertifiedRun x text a) r
 certified_runs x text a (Ok v) judged reads = record { fault = None; judged = judged; comes = reads }
-certified_runs x text a (Err (stop.Told r)) judged reads = (reads.0, record { fault = None; judged = judged; comes = reads.1 })
+certified_runs x text a (Err (stop.Told r f)) judged reads = (reads.0, record { fault = None; judged = judged; comes = reads.1 })
 certified_runs x text a (Err stop.NotHeld) judged reads = absurd reads
 certified_runs x text a (Err stop.Failed) judged reads = absurd reads
 certified_runs x text a (Err stop.Memory) judged reads = tt
@@ -248,7 +256,7 @@ certified_runs x text a (Err stop.Memory) judged reads = tt
 -- a refusal
 pub certified_refused : (x : Exchange) (text : Option (List ℕ)) (a : Answer) (f : CertificateFault) (s : Stop)
     → IsJudged x text (Some f) → IsStopOf (certificate_refusal f) s → TellsOutcome (IsCertifiedRun x text a) (Err s)
-certified_refused x text a f (stop.Told b) judged is = (is.0, record { fault = Some f; judged = judged; comes = ap Err is.1 })
+certified_refused x text a f (stop.Told b k) judged is = (is.0, record { fault = Some f; judged = judged; comes = ap Err is.1 })
 certified_refused x text a f stop.NotHeld judged is = absurd is
 certified_refused x text a f stop.Failed judged is = absurd is
 certified_refused x text a f stop.Memory judged is = tt

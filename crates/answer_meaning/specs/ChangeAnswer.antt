@@ -1,6 +1,6 @@
 -- `change`: a run that goes on with another exchange.
 use Rattle.std.specs.Prelude.{◌≡◌, ℕ, nat_le, nat_lt, Bool, true, false, not, ◌&&◌, List, ◌++◌}
-use Rattle.std.specs.Prelude.{Option, Some, None}
+use Rattle.std.specs.Prelude.{Option, Some, None, Err}
 use Rattle.plex_io.specs.Files.{Files}
 use Rattle.exchange_model.specs.declared.exchange.Exchange.{Exchange}
 use Rattle.signal_file.specs.declared.line.Line.{Line}
@@ -10,11 +10,10 @@ use Rattle.report_text.specs.Report.{event_lines, text_of}
 use Rattle.block_change.specs.declared.misfit.Misfit.{Misfit}
 use Rattle.block_change.specs.Carried.{IsCarried}
 use Rattle.block_change.specs.Misfits.{misfit}
-use Rattle.answer_meaning.specs.Text.{change_text, misfit_text}
+use Rattle.answer_meaning.specs.Text.{change_text, misfit_refusal}
 use Rattle.command_words.specs.declared.command.ChangeWords.{ChangeWords}
 use Rattle.answer_meaning.specs.declared.answer.Answer.{Answer}
 use Rattle.answer_meaning.specs.declared.fault.Which.TheVariants.{New}
-use Rattle.command_words.specs.declared.status.Status.TheVariants as status
 use Rattle.answer_meaning.specs.Outcome.{ComesOf, IsAnAnswer, Out, headed_by}
 use Rattle.answer_meaning.specs.Given.{exchange_as, exchange_at, lines_at}
 use Rattle.answer_meaning.specs.RunAnswer.{end_of, ended_answer, ending_of, run_answer}
@@ -53,18 +52,15 @@ abbrev pub ChangesOrNot : (old new : Exchange) → List Line → (jobs at : ℕ)
 ChangesOrNot old new lines jobs at true a = IsChanged old new (end_of old lines at) jobs at a
 ChangesOrNot old new lines jobs at false a = a ≡ run_answer old lines jobs
 
--- what the new exchange has not
-abbrev pub misfit_answer : Exchange → Misfit → Answer
-misfit_answer old m = record { status = status.Change; text = misfit_text old m }
+-- the run, or the refusal where the new exchange has not what the old one has
+abbrev pub AnswersChange : (old new : Exchange) → List Line → (jobs at : ℕ) → Option Misfit
+    → Out Answer → Type 0
+AnswersChange old new lines jobs at None o =
+    IsAnAnswer (ChangesOrNot old new lines jobs at (is_changed old lines jobs at)) o
+AnswersChange old new lines jobs at (Some m) o = Err (misfit_refusal old m) ≡ o
 
-abbrev pub AnswersChange : (old new : Exchange) → List Line → (jobs at : ℕ) → Option Misfit → Answer
-    → Type 0
-AnswersChange old new lines jobs at None a =
-    ChangesOrNot old new lines jobs at (is_changed old lines jobs at) a
-AnswersChange old new lines jobs at (Some m) a = a ≡ misfit_answer old m
-
--- what a change from one exchange to another is answered by
-abbrev pub ChangeAnswers : (old new : Exchange) → List Line → (jobs at : ℕ) → Answer → Type 0
+-- what a change from one exchange to another comes to
+abbrev pub ChangeAnswers : (old new : Exchange) → List Line → (jobs at : ℕ) → Out Answer → Type 0
 ChangeAnswers old new lines jobs at = AnswersChange old new lines jobs at (misfit old new)
 
 abbrev pub ChangeComes : ChangeWords → Files → Out Answer → Type 0
@@ -72,4 +68,4 @@ ChangeComes w files =
     ComesOf (exchange_at w.run.exchange files) (λ old.
     ComesOf (lines_at old w.run.signals files) (λ lines.
     ComesOf (exchange_as New w.new files) (λ new.
-    IsAnAnswer (ChangeAnswers old new lines w.run.bounds.jobs w.at))))
+    ChangeAnswers old new lines w.run.bounds.jobs w.at)))

@@ -1,5 +1,5 @@
 -- What the top call promises.
-use Rattle.std.specs.Prelude.{◌≡◌, ℕ, List, Option, Result, Ok, Err, IsSomeAnd, ◌⊎◌}
+use Rattle.std.specs.Prelude.{◌≡◌, ℕ, List, Option, Some, None, Result, Ok, Err, IsSomeAnd, ◌⊎◌}
 use Rattle.plex_io.specs.Causes.{Rose}
 use Rattle.plex_io.specs.Files.{Files}
 use Rattle.plex_io.specs.Written.{appended, WroteLess, IsFull}
@@ -7,8 +7,10 @@ use Rattle.answer_meaning.specs.Answer.{answer_of}
 use Rattle.answer_meaning.specs.declared.answer.Answer.{Answer}
 use Rattle.answer_meaning.specs.declared.answer.Stop.{Stop}
 use Rattle.answer_meaning.specs.declared.answer.Stop.TheVariants as stop
+use Rattle.answer_meaning.specs.declared.fault.FileFault.{FileFault}
 use Rattle.answer_meaning.specs.Outcome.{not_held}
-use Rattle.answer_meaning.specs.Stages.{Performs}
+use Rattle.answer_meaning.specs.Stages.{IsRefusal, Performs}
+use Rattle.answer_meaning.specs.Text.{IsRefusalOf}
 use Rattle.command_words.specs.declared.status.Status.{Status}
 use Rattle.command_words.specs.declared.status.Status.TheVariants as status
 
@@ -61,6 +63,22 @@ abbrev pub IsComplete : (Answer → Type 0) → ℕ → ℕ → ℕ → ℕ → 
 IsComplete Is shelf shelf' sink sink' s =
     ¬ (Rose shelf shelf') → ¬ (Rose sink sink') → HasStatus Is s ⊎ (s ≡ status.Memory)
 
+-- the refusal of this fault was written whole, its line and its status
+pub record IsLineOf (f : FileFault) (before after : Option (List ℕ)) (s : Status) : Type 0 where
+  pub answer : Answer
+  pub is : IsRefusalOf f answer
+  pub written : IsWritten answer before after s
+
+-- a fault is told exactly with the status of a refusal, and it is that of the line that was written
+abbrev pub TellsFault : Option (List ℕ) → Option (List ℕ) → Status → Option FileFault → Type 0
+TellsFault before after s None = ¬ (IsRefusal s)
+TellsFault before after s (Some f) = IsLineOf f before after s
+
+-- an answer is the refusal of this fault, or no refusal
+abbrev pub FitsFault : Option FileFault → Answer → Type 0
+FitsFault None a = ¬ (IsRefusal a.status)
+FitsFault (Some f) a = IsRefusalOf f a
+
 -- a status with which a text is written
 abbrev pub WritesText : Status → Type 0
 WritesText status.Read = ⊥
@@ -74,23 +92,24 @@ abbrev pub Answers : (Files → Answer → Type 0) → Option Files → (faults 
 Answers Is held faults faults' result =
     Performs held (λ files o. Is files (answer_of o)) faults faults' result
 
--- an answer that may be written: that of no shape is the usage line, and no other is
-pub record IsMade (Unshaped : Type 0) (usage_line a : Answer) : Type 0 where
+-- an answer that may be written: that of no shape is the usage line, and no other is; a fault
+-- comes with its refusal
+pub record IsMade (Unshaped : Type 0) (usage_line a : Answer) (f : Option FileFault) : Type 0 where
   pub plain : WritesText a.status
   pub usage : a.status ≡ status.Usage → Unshaped
   pub unshaped : Unshaped → a ≡ usage_line
+  pub fits : FitsFault f a
 
 -- what is to be written, if anything is, is such a one
 abbrev pub Makes : Type 0 → Answer → Result Answer Stop → Type 0
-Makes Unshaped usage_line (Ok a) = IsMade Unshaped usage_line a
-Makes Unshaped usage_line (Err (stop.Told a)) = IsMade Unshaped usage_line a
+Makes Unshaped usage_line (Ok a) = IsMade Unshaped usage_line a None
+Makes Unshaped usage_line (Err (stop.Told a f)) = IsMade Unshaped usage_line a (Some f)
 Makes Unshaped usage_line (Err stop.NotHeld) = Unit {0}
 Makes Unshaped usage_line (Err stop.Failed) = Unit {0}
 Makes Unshaped usage_line (Err stop.Memory) = Unit {0}
 
--- the status of a run, or of a change that does not fit
+-- the status of a run
 abbrev pub IsEnding : Status → Type 0
-IsEnding status.Change = Unit {0}
 IsEnding status.Done = Unit {0}
 IsEnding status.Restart = Unit {0}
 IsEnding status.Limit = Unit {0}

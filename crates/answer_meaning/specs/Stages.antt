@@ -10,6 +10,8 @@ use Rattle.answer_meaning.specs.declared.answer.Stop.TheVariants as stop
 use Rattle.command_words.specs.declared.status.Status.{Status}
 use Rattle.command_words.specs.declared.status.Status.TheVariants as status
 use Rattle.answer_meaning.specs.Outcome.{Out, not_held}
+use Rattle.answer_meaning.specs.Text.{IsRefusalOf}
+use Rattle.answer_meaning.specs.declared.fault.FileFault.{FileFault}
 
 -- a status of a fault of a file
 abbrev pub IsRefusal : Status → Type 0
@@ -17,13 +19,14 @@ IsRefusal status.Source = Unit {0}
 IsRefusal status.Signals = Unit {0}
 IsRefusal status.Certificate = Unit {0}
 IsRefusal status.Table = Unit {0}
+IsRefusal status.Change = Unit {0}
 IsRefusal status.Filter = Unit {0}
 IsRefusal s = ⊥
 
 -- why a stage stops
 abbrev pub StopsBy : {A : Type 0} → Option Files → (Files → Out A → Type 0) → ℕ → ℕ → Stop → Type 0
-StopsBy held work before after (stop.Told a) =
-    IsRefusal a.status × IfSome held (λ files. work files (Err a))
+StopsBy held work before after (stop.Told a f) =
+    IsRefusalOf f a × IfSome held (λ files. work files (Err a))
 StopsBy held work before after stop.NotHeld = IsSomeAnd held (λ files. work files (Err not_held))
 StopsBy held work before after stop.Failed = Rose before after
 StopsBy held work before after stop.Memory = Unit {0}
@@ -44,7 +47,7 @@ Comes held stage before after result =
 -- an outcome comes that is such a one, or memory was refused; no file is read
 abbrev pub TellsOutcome : {A : Type 0} → (Out A → Type 0) → Result A Stop → Type 0
 TellsOutcome Is (Ok a) = Is (Ok a)
-TellsOutcome Is (Err (stop.Told a)) = IsRefusal a.status × Is (Err a)
+TellsOutcome Is (Err (stop.Told a f)) = IsRefusalOf f a × Is (Err a)
 TellsOutcome Is (Err stop.NotHeld) = ⊥
 TellsOutcome Is (Err stop.Failed) = ⊥
 TellsOutcome Is (Err stop.Memory) = Unit {0}
@@ -53,14 +56,14 @@ TellsOutcome Is (Err stop.Memory) = Unit {0}
 abbrev pub ReadAs : {A : Type 0} → Out A → Result A Stop → Type 0
 ReadAs said result = TellsOutcome (λ o. said ≡ o) result
 
--- the stop that this refusal makes
+-- the stop that this refusal makes, with the fault of which it is one
 abbrev pub IsStopOf : Answer → Stop → Type 0
-IsStopOf a (stop.Told b) = IsRefusal b.status × (a ≡ b)
+IsStopOf a (stop.Told b f) = IsRefusalOf f b × (a ≡ b)
 IsStopOf a stop.NotHeld = ⊥
 IsStopOf a stop.Failed = ⊥
 IsStopOf a stop.Memory = Unit {0}
 
--- the same of a refusal of this status with a line, for which there was memory or not
-abbrev pub IsStopWith : Status → Result (List ℕ) Memory → Stop → Type 0
-IsStopWith s (Ok line) t = IsStopOf (record { status = s; text = line }) t
-IsStopWith s (Err m) t = t ≡ stop.Memory
+-- the stop with this fault, this status and a line, for which there was memory or not
+abbrev pub IsStopWith : FileFault → Status → Result (List ℕ) Memory → Stop → Type 0
+IsStopWith f s (Ok line) t = t ≡ stop.Told (record { status = s; text = line }) f
+IsStopWith f s (Err m) t = t ≡ stop.Memory

@@ -1,5 +1,5 @@
 -- The lines that are written in place of a report, and the answers to what is refused.
-use Rattle.std.specs.Prelude.{List, ℕ, [], ◌∷◌, ◌++◌, codes, slice_get}
+use Rattle.std.specs.Prelude.{◌≡◌, List, ℕ, [], ◌∷◌, ◌++◌, codes, slice_get}
 use Rattle.std.specs.Fmt.{decimal}
 use Rattle.std.specs.List.{flat_map}
 use Rattle.std.specs.Option.{option_map_or}
@@ -24,6 +24,8 @@ use Rattle.signal_trace.specs.declared.fault.FilterFault.{FilterFault}
 use Rattle.signal_file.specs.Rules.{signals_rule_name}
 use Rattle.job_table.specs.Rules.{table_rule_name}
 use Rattle.signal_trace.specs.Filter.{filter_rule_name}
+use Rattle.answer_meaning.specs.declared.fault.FileFault.{FileFault}
+use Rattle.answer_meaning.specs.declared.fault.FileFault.TheVariants as file
 use Rattle.answer_meaning.specs.declared.fault.SourceFault.{SourceFault}
 use Rattle.answer_meaning.specs.declared.fault.Which.{Which}
 use Rattle.answer_meaning.specs.declared.fault.Which.TheVariants.{First, New}
@@ -132,6 +134,20 @@ file_words x n = option_map_or (λ (p : Placed). name_of_block x.blocks p.block 
 abbrev pub misfit_text : Exchange → Misfit → List ℕ
 misfit_text x (EntryMisfit e) = codes "CHANGE ENTRY " ++ name_of_entry x e ++ LF
 misfit_text x (FileMisfit f) = codes "CHANGE FILE " ++ file_words x f ++ LF
+
+-- what the new exchange has not
+abbrev pub misfit_refusal : Exchange → Misfit → Answer
+misfit_refusal old m = record { status = status.Change; text = misfit_text old m }
+
+-- a fault of a file is answered by this refusal; the line of a misfit has names of the exchange of
+-- which it is one
+abbrev pub IsRefusalOf : FileFault → Answer → Type 0
+IsRefusalOf (file.Source which f) a = source_refusal which f ≡ a
+IsRefusalOf (file.Signals f) a = signals_refusal f ≡ a
+IsRefusalOf (file.Certificate f) a = certificate_refusal f ≡ a
+IsRefusalOf (file.Table f) a = table_refusal f ≡ a
+IsRefusalOf (file.Filter f) a = filter_refusal f ≡ a
+IsRefusalOf (file.Change m) a = (old : Exchange) × (misfit_refusal old m ≡ a)
 
 -- `CHANGE job K`
 abbrev pub change_text : ℕ → List ℕ

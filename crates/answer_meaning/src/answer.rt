@@ -1,5 +1,6 @@
 // What a program writes and ends with, and why the work for it stops.
 
+use crate::fault::FileFault;
 use command_words::Status;
 use plex_num::Memory;
 use text_parts::Text;
@@ -16,11 +17,19 @@ impl Drop for Answer {
     }
 }
 
+/// How a program ended.
+#[derive(Clone, Copy)]
+pub struct ProgramEnd {
+    pub status: Status,
+    /// The fault whose line was written; none where no line of a fault was written whole.
+    pub fault: Option<FileFault>,
+}
+
 /// Why the work stops.
 #[derive(Drop)]
 pub enum Stop {
-    /// With this status and text, which tell the first fault of a file.
-    Told(Answer),
+    /// With the status and the line of this fault, the first one of a file.
+    Told { answer: Answer, fault: FileFault },
     /// The shelf holds no file of this name.
     NotHeld,
     /// A file could not be read.

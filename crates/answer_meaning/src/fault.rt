@@ -1,7 +1,11 @@
-// The first fault of an exchange text and of a certificate.
+// The first fault of a file: of an exchange text, of a certificate, and of any file.
 
+use block_change::Misfit;
 use certificate_text::Shape;
 use flow_points::Fact;
+use job_table::TableFault;
+use signal_file::SignalsFault;
+use signal_trace::FilterFault;
 use text_rules::LinkRule;
 
 /// Which exchange text of a command.
@@ -57,4 +61,21 @@ pub enum CertificateFault {
     Strange { fact: Fact },
     /// The least fact that follows from the certificate's by one rule and is not among them.
     Missing { fact: Fact },
+}
+
+/// The first fault of the files of a command, by which its answer is a refusal.
+#[derive(Clone, Copy)]
+pub enum FileFault {
+    /// A fault of an exchange text.
+    Source { which: Which, fault: SourceFault },
+    /// A fault of the signal file.
+    Signals(SignalsFault),
+    /// A fault of the certificate.
+    Certificate(CertificateFault),
+    /// A fault of the table of periodic signals.
+    Table(TableFault),
+    /// A fault of the filter.
+    Filter(FilterFault),
+    /// What the exchange has not that is to take the place of the first one.
+    Change(Misfit),
 }

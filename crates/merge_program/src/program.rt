@@ -3,11 +3,11 @@ ghost use Rattle.std.specs.Prelude.{◌≡◌, Ok, IfOk, IfSome};
 ghost use Rattle.answer_meaning.specs.Stages.{Comes, ReadAs};
 ghost use Rattle.answer_meaning.specs.Program.{Answers, ProcessEnds, ProcessEndsAs, IsComplete};
 ghost use Rattle.answer_meaning.specs.Program.{IsEnding};
-ghost use Rattle.answer_meaning.specs.Program.{Makes, ReadCause, WriteCause};
+ghost use Rattle.answer_meaning.specs.Program.{Makes, ReadCause, TellsFault, WriteCause};
 ghost use Rattle.merge_program.specs.Merge.{AreOthers, IsMergeAnswer, lines_answer, merge_of};
 ghost use Rattle.merge_program.specs.Merge.{usage_answer, usage_text};
 
-use answer_meaning::{Answer, Stop};
+use answer_meaning::{Answer, ProgramEnd, Stop};
 use command_answers::write_answer;
 use command_words::Status;
 use exchange_model::Exchange;
@@ -24,35 +24,49 @@ use text_parts::Text;
 /// `words` are the command's words without the program's name. Where the shelf tells its files, the
 /// status and the text are those of the answer (`IsMergeAnswer`), but for `Read` where a read
 /// failed, `Write` where the sink failed or is full, and then a proper front of the text was
-/// written, and `Memory`.
+/// written, and `Memory`. With the status of a refusal, and no other, comes the fault whose line
+/// was written.
 #[tactic(auto, using(answer_meaning::proofs::Endings::ending))]
 pub fn plex_merge<S: Shelf, K: Sink>(
     alloc: Global,
     words: &[Word],
     shelf: &mut S,
     sink: &mut K,
-) -> Status
+) -> ProgramEnd
     ensures answers { IfSome (S.held shelf.old)
         (λ files. ProcessEndsAs (IsMergeAnswer words.now files)
-        (K.written sink.old) (K.written sink.new) result) }
+        (K.written sink.old) (K.written sink.new) result.status) }
     ensures unshaped { AreOthers words.now →
-        ProcessEnds usage_answer (K.written sink.old) (K.written sink.new) result }
-    ensures usage { result ≡ Status.Usage → AreOthers words.now }
-    ensures read { result ≡ Status.Read → ReadCause (IsMergeAnswer words.now) (S.held shelf.old)
+        ProcessEnds usage_answer (K.written sink.old) (K.written sink.new) result.status }
+    ensures usage { result.status ≡ Status.Usage → AreOthers words.now }
+    ensures read { result.status ≡ Status.Read →
+        ReadCause (IsMergeAnswer words.now) (S.held shelf.old)
         (S.faults shelf.old) (S.faults shelf.new) (K.written sink.old) (K.written sink.new) }
-    ensures write { result ≡ Status.Write →
+    ensures write { result.status ≡ Status.Write →
         WriteCause (K.size sink.old) (K.written sink.new) (K.faults sink.old) (K.faults sink.new) }
-    ensures memory { result ≡ Status.Memory → K.written sink.new ≡ K.written sink.old }
+    ensures memory { result.status ≡ Status.Memory → K.written sink.new ≡ K.written sink.old }
     ensures complete { IfSome (S.held shelf.old)
         (λ files. IsComplete (IsMergeAnswer words.now files)
-        (S.faults shelf.old) (S.faults shelf.new) (K.faults sink.old) (K.faults sink.new) result) }
+        (S.faults shelf.old) (S.faults shelf.new) (K.faults sink.old) (K.faults sink.new)
+        result.status) }
+    ensures fault { TellsFault (K.written sink.old) (K.written sink.new) result.status
+        result.fault }
 {
     match answered(alloc, words, shelf) {
-        Ok(answer) => write_answer(sink, &answer),
-        Err(Stop::Told(answer)) => write_answer(sink, &answer),
-        Err(Stop::NotHeld) => Status::Read,
-        Err(Stop::Failed) => Status::Read,
-        Err(Stop::Memory) => Status::Memory,
+        Ok(answer) => write_answer(sink, &answer, None),
+        Err(Stop::Told { answer, fault }) => write_answer(sink, &answer, Some(fault)),
+        Err(Stop::NotHeld) => ProgramEnd {
+            status: Status::Read,
+            fault: None,
+        },
+        Err(Stop::Failed) => ProgramEnd {
+            status: Status::Read,
+            fault: None,
+        },
+        Err(Stop::Memory) => ProgramEnd {
+            status: Status::Memory,
+            fault: None,
+        },
     }
 }
 

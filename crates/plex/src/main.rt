@@ -3,15 +3,17 @@
 // do.
 #![tactic(auto)]
 
+use answer_meaning::ProgramEnd;
 use command_usage::{PROGRAM, say_wrong};
 use command_words::Status;
-use plex_io::{FileShelf, NoGate, OutSink, Word};
+use plex_io::{FileShelf, NoGate, OutSink, Shelf, Sink, Word};
 use plex_num::Memory;
 use plex_program::plex;
 use process_ends::{
-    Known, NotingShelf, NotingSink, Progress, complain, is_asked, no_memory, words_of,
+    ClearingSink, Known, NotingShelf, Progress, complain, is_asked, no_memory, words_of,
 };
 use std::alloc::Global;
+use std::io::ErrorKind;
 use std::process::ExitCode;
 use std::rt::{Clock, Env, Files};
 use std::sync::Wait;
@@ -36,15 +38,11 @@ fn run<R: Threads + Wait + Sync + Files + Print + Eprint + Clock + Env>(
 ) -> Status {
     let progress = asked_progress(rt);
     let mut shelf = NotingShelf::new(FileShelf::new(rt), words);
-    let mut sink = NotingSink::new(OutSink::new(rt), progress.as_ref());
-    let status = match &progress {
-        Some(gate) => plex(rt, alloc, words, &mut shelf, &mut sink, gate),
-        None => plex(rt, alloc, words, &mut shelf, &mut sink, &NoGate),
-    };
+    let (end, write_failure) = write_out(rt, alloc, words, &mut shelf, progress.as_ref());
     if let Some(progress) = &progress {
         progress.clear();
     }
-    if status == Status::Usage {
+    if end.status == Status::Usage {
         let _ = say_wrong(rt, words, are_text);
     }
     let known = Known {
@@ -52,10 +50,37 @@ fn run<R: Threads + Wait + Sync + Files + Print + Eprint + Clock + Env>(
         files: files_in(words),
         unread: shelf.unread(),
         read_failure: shelf.inner().cause(),
-        write_failure: sink.inner().cause(),
-        front: sink.front(),
+        write_failure,
     };
-    complain(rt, status, &known)
+    complain(rt, end, &known)
+}
+
+/// The one call over the standard output, and of what kind the failure of a write was.
+fn write_out<R: Threads + Wait + Sync + Print + Eprint + Clock, S: Shelf>(
+    rt: &R,
+    alloc: Global,
+    words: &[Word],
+    shelf: &mut S,
+    progress: Option<&Progress<'_, R>>,
+) -> (ProgramEnd, Option<ErrorKind>) {
+    let mut sink = ClearingSink::new(OutSink::new(rt), progress);
+    let end = call(rt, alloc, words, shelf, &mut sink, progress);
+    (end, sink.inner().cause())
+}
+
+/// The one call, with what tells how far the run has come.
+fn call<R: Threads + Wait + Sync + Clock + Eprint, S: Shelf, K: Sink>(
+    rt: &R,
+    alloc: Global,
+    words: &[Word],
+    shelf: &mut S,
+    sink: &mut K,
+    progress: Option<&Progress<'_, R>>,
+) -> ProgramEnd {
+    match progress {
+        Some(gate) => plex(rt, alloc, words, shelf, sink, gate),
+        None => plex(rt, alloc, words, shelf, sink, &NoGate),
+    }
 }
 
 /// What tells how far the run has come, where the environment asks for it.

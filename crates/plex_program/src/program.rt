@@ -3,12 +3,12 @@ ghost use Rattle.std.specs.Prelude.{◌≡◌, IfSome, None, Ok};
 ghost use Rattle.answer_meaning.specs.Answer.{IsAnswer, usage_answer};
 ghost use Rattle.answer_meaning.specs.Program.{Answers, ProcessEnds, ProcessEndsAs, IsComplete};
 ghost use Rattle.answer_meaning.specs.Program.{Makes};
-ghost use Rattle.answer_meaning.specs.Program.{ReadCause, WriteCause};
+ghost use Rattle.answer_meaning.specs.Program.{ReadCause, TellsFault, WriteCause};
 ghost use Rattle.answer_meaning.specs.Stages.{ReadAs};
 ghost use Rattle.command_words.specs.Words.{shape};
 
 use crate::perform::perform;
-use answer_meaning::{Answer, Stop};
+use answer_meaning::{Answer, ProgramEnd, Stop};
 use command_answers::{usage_line, write_answer};
 use command_words::{Status, read_command};
 use parallel_dispatch::Host;
@@ -24,7 +24,8 @@ use text_parts::Text;
 /// `words` are the command's words without the program's name. Where the shelf tells its files, the
 /// status and the text are those of the answer (`IsAnswer`), but for `Read` where a read failed,
 /// `Write` where the sink failed or is full, and then a proper front of the text was written, and
-/// `Memory`. Where the words allow more than one worker, jobs may run at once on threads of `rt`,
+/// `Memory`. With the status of a refusal, and no other, comes the fault whose line was written.
+/// Where the words allow more than one worker, jobs may run at once on threads of `rt`,
 /// each of which calls `gate` before and after its job; the answer is that of the single run all
 /// the same.
 #[tactic(auto, using(answer_meaning::proofs::Endings::ending))]
@@ -35,28 +36,40 @@ pub fn plex<R: Threads + Wait + Sync, S: Shelf, K: Sink, G: Gate + Sync>(
     shelf: &mut S,
     sink: &mut K,
     gate: &G,
-) -> Status
+) -> ProgramEnd
     ensures answers { IfSome (S.held shelf.old)
         (λ files. ProcessEndsAs (IsAnswer words.now files)
-        (K.written sink.old) (K.written sink.new) result) }
+        (K.written sink.old) (K.written sink.new) result.status) }
     ensures unshaped { shape words.now ≡ None →
-        ProcessEnds usage_answer (K.written sink.old) (K.written sink.new) result }
-    ensures usage { result ≡ Status.Usage → shape words.now ≡ None }
-    ensures read { result ≡ Status.Read → ReadCause (IsAnswer words.now) (S.held shelf.old)
+        ProcessEnds usage_answer (K.written sink.old) (K.written sink.new) result.status }
+    ensures usage { result.status ≡ Status.Usage → shape words.now ≡ None }
+    ensures read { result.status ≡ Status.Read → ReadCause (IsAnswer words.now) (S.held shelf.old)
         (S.faults shelf.old) (S.faults shelf.new) (K.written sink.old) (K.written sink.new) }
-    ensures write { result ≡ Status.Write →
+    ensures write { result.status ≡ Status.Write →
         WriteCause (K.size sink.old) (K.written sink.new) (K.faults sink.old) (K.faults sink.new) }
-    ensures memory { result ≡ Status.Memory → K.written sink.new ≡ K.written sink.old }
+    ensures memory { result.status ≡ Status.Memory → K.written sink.new ≡ K.written sink.old }
     ensures complete { IfSome (S.held shelf.old) (λ files. IsComplete (IsAnswer words.now files)
-        (S.faults shelf.old) (S.faults shelf.new) (K.faults sink.old) (K.faults sink.new) result) }
+        (S.faults shelf.old) (S.faults shelf.new) (K.faults sink.old) (K.faults sink.new)
+        result.status) }
+    ensures fault { TellsFault (K.written sink.old) (K.written sink.new) result.status
+        result.fault }
 {
     let host = Host { rt, alloc, gate };
     match answered(&host, words, shelf) {
-        Ok(answer) => write_answer(sink, &answer),
-        Err(Stop::Told(answer)) => write_answer(sink, &answer),
-        Err(Stop::NotHeld) => Status::Read,
-        Err(Stop::Failed) => Status::Read,
-        Err(Stop::Memory) => Status::Memory,
+        Ok(answer) => write_answer(sink, &answer, None),
+        Err(Stop::Told { answer, fault }) => write_answer(sink, &answer, Some(fault)),
+        Err(Stop::NotHeld) => ProgramEnd {
+            status: Status::Read,
+            fault: None,
+        },
+        Err(Stop::Failed) => ProgramEnd {
+            status: Status::Read,
+            fault: None,
+        },
+        Err(Stop::Memory) => ProgramEnd {
+            status: Status::Memory,
+            fault: None,
+        },
     }
 }
 

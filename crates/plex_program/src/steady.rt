@@ -29,5 +29,6 @@ pub fn plex_steady<R: Threads + Wait + Sync, G: Gate + Sync>(
         sink.old.bytes sink.new.bytes result }
     ensures memory { result ≡ Status.Memory → sink.new.bytes ≡ sink.old.bytes }
 {
-    plex(rt, alloc, words, shelf, sink, gate)
+    let end = plex(rt, alloc, words, shelf, sink, gate);
+    end.status
 }

@@ -2,9 +2,9 @@
 ghost use Rattle.std.specs.Prelude.{◌≡◌, ◌↔◌, ◌⊎◌};
 ghost use Rattle.command_words.specs.Status.{exit_number};
 
-use crate::names::{Named, text_of};
-use crate::sentences::{read_reason, sentence_of, write_reason};
-use crate::told::{Told, told_in};
+use crate::names::{Named, Names, text_of};
+use crate::sentences::{read_reason, row_of, write_reason};
+use answer_meaning::{CertificateFault, FileFault, ProgramEnd, Which};
 use command_words::Status;
 use plex_io::Word;
 use std::io;
@@ -22,7 +22,7 @@ pub struct Program {
     pub no_memory: &'static str,
 }
 
-/// What main knows of a run beside its status.
+/// What main knows of a run beside its end.
 #[derive(Drop)]
 pub struct Known<'a> {
     /// The program.
@@ -36,8 +36,6 @@ pub struct Known<'a> {
     pub read_failure: Option<ErrorKind>,
     /// Of what kind the failure of a write was.
     pub write_failure: Option<ErrorKind>,
-    /// What was written first.
-    pub front: &'a [u8],
 }
 
 /// What there is to say.
@@ -47,7 +45,7 @@ enum Matter {
     Nothing,
     /// What is wrong with the words of the command, which the program says itself.
     Words,
-    /// What is wrong with a file, of which the first line of the output tells.
+    /// What is wrong with a file, of which the line of the output tells.
     Fault,
     /// Which file could not be read, and why.
     Read,
@@ -77,16 +75,19 @@ fn matter_of(status: Status) -> Matter
     }
 }
 
-/// Says on the standard error what a status means where the standard output does not tell it all,
-/// and gives the status back. Of `Usage` it says nothing, since the program alone knows what its
-/// words may be.
-pub fn complain<R: Eprint>(rt: &R, status: Status, known: &Known<'_>) -> Status
-    ensures { result ≡ status }
+/// Says on the standard error what an end means where the standard output does not tell it all, and
+/// gives its status back. Of `Usage` it says nothing, since the program alone knows what its words
+/// may be.
+pub fn complain<R: Eprint>(rt: &R, end: ProgramEnd, known: &Known<'_>) -> Status
+    ensures { result ≡ end.status }
 {
     let program = known.program.name;
-    let _ = match matter_of(status) {
+    let _ = match matter_of(end.status) {
         Matter::Nothing | Matter::Words => Ok(()),
-        Matter::Fault => say_fault(rt, known),
+        Matter::Fault => match end.fault {
+            Some(fault) => say_fault(rt, fault, known.files),
+            None => Ok(()),
+        },
         Matter::Read => say_unread(rt, known),
         Matter::Write => {
             let reason = write_reason(known.write_failure);
@@ -97,7 +98,7 @@ pub fn complain<R: Eprint>(rt: &R, status: Status, known: &Known<'_>) -> Status
             eprintln!(rt; "{program}: {means}")
         }
     };
-    status
+    end.status
 }
 
 /// Says on the standard error the name and the version of a program.
@@ -116,9 +117,12 @@ pub fn no_memory<R: Eprint>(rt: &R, program: Program) -> Status
         unread: None,
         read_failure: None,
         write_failure: None,
-        front: &[],
     };
-    complain(rt, Status::Memory, &known)
+    let end = ProgramEnd {
+        status: Status::Memory,
+        fault: None,
+    };
+    complain(rt, end, &known)
 }
 
 /// Which file could not be read, and why.
@@ -134,37 +138,89 @@ fn say_unread<R: Eprint>(rt: &R, known: &Known<'_>) -> io::Result<()> {
     }
 }
 
-/// The fault of which the first line of the output tells, in the form that compilers use.
-fn say_fault<R: Eprint>(rt: &R, known: &Known<'_>) -> io::Result<()> {
-    let Ok(front) = str::from_utf8(known.front) else {
+/// A fault, in the form that compilers use, and what tells all faults of its file where the fault
+/// has a line.
+fn say_fault<R: Eprint>(rt: &R, fault: FileFault, files: &[Word]) -> io::Result<()> {
+    let Some(file) = file_of(fault, files) else {
         return Ok(());
     };
-    let Some(told) = told_in(front) else {
-        return Ok(());
-    };
-    let Some(file) = file_of(told.first, known.files) else {
-        return Ok(());
-    };
-    say_told(rt, Named(text_of(file)), told)
-}
-
-/// What a line tells of a fault in this file.
-fn say_told<R: Eprint>(rt: &R, file: Named<'_>, told: Told<'_>) -> io::Result<()> {
-    let word = told.word;
-    let sentence = sentence_of(told.first, word).unwrap_or("");
-    match told.line {
-        Some(line) => eprintln!(rt; "{file}:{line}: {word}: {sentence}"),
-        None => eprintln!(rt; "{file}: {word}: {sentence}"),
+    let file = Named(text_of(file));
+    let (word, sentence) = row_of(fault);
+    match line_of(fault) {
+        0 => eprintln!(rt; "{file}: {word}: {sentence}"),
+        line => {
+            eprintln!(rt; "{file}:{line}: {word}: {sentence}")?;
+            say_checker(rt, fault, files)
+        }
     }
 }
 
-/// The name of the file in which the fault is, by the first word of the line that tells it.
-fn file_of<'a>(first: &str, files: &'a [Word]) -> Option<&'a Word> {
-    match first {
-        "SOURCE" => files.first(),
-        "SIGNALS" => files.get(1),
-        "CERTIFICATE" => certificate_in(files),
-        _ => files.get(2),
+/// The line of a fault, from 1; 0 where it has none.
+fn line_of(fault: FileFault) -> u32 {
+    match fault {
+        FileFault::Source { which: _, fault } => fault.line,
+        FileFault::Signals(fault) => fault.line,
+        FileFault::Certificate(CertificateFault::BadText { line }) => line,
+        FileFault::Table(fault) => fault.line,
+        FileFault::Filter(fault) => fault.line,
+        FileFault::Certificate(_) | FileFault::Change(_) => 0,
+    }
+}
+
+/// The command that tells all faults of a file, where plex-check reads such files.
+fn say_checker<R: Eprint>(rt: &R, fault: FileFault, files: &[Word]) -> io::Result<()> {
+    match read_together(fault, files) {
+        Some(files) => {
+            let names = Names(files);
+            eprintln!(rt; "plex-check{names} tells all faults, with columns")
+        }
+        None => Ok(()),
+    }
+}
+
+/// The names of the files that plex-check reads to tell all faults of the file of this one; `None`
+/// where it reads no such file.
+fn read_together(fault: FileFault, files: &[Word]) -> Option<&[Word]> {
+    match fault {
+        FileFault::Source {
+            which: Which::First,
+            fault: _,
+        } => first_of(files, 1),
+        FileFault::Source {
+            which: Which::New,
+            fault: _,
+        } => {
+            let (_, new) = first_of(files, 3)?.split_at_checked(2)?;
+            Some(new)
+        }
+        FileFault::Signals(_) => first_of(files, 2),
+        FileFault::Table(_) | FileFault::Filter(_) => first_of(files, 3),
+        FileFault::Certificate(_) | FileFault::Change(_) => None,
+    }
+}
+
+/// The first words, so many.
+fn first_of(words: &[Word], many: usize) -> Option<&[Word]> {
+    let (first, _) = words.split_at_checked(many)?;
+    Some(first)
+}
+
+/// The name of the file in which a fault is.
+fn file_of(fault: FileFault, files: &[Word]) -> Option<&Word> {
+    match fault {
+        FileFault::Source {
+            which: Which::First,
+            fault: _,
+        } => files.first(),
+        FileFault::Signals(_) => files.get(1),
+        FileFault::Certificate(_) => certificate_in(files),
+        FileFault::Source {
+            which: Which::New,
+            fault: _,
+        }
+        | FileFault::Table(_)
+        | FileFault::Filter(_)
+        | FileFault::Change(_) => files.get(2),
     }
 }
 

@@ -18,6 +18,20 @@ impl fmt::Display for Named<'_> {
     }
 }
 
+/// Several names, each behind a space.
+#[derive(Clone, Copy)]
+pub struct Names<'a>(pub &'a [Word]);
+
+impl fmt::Display for Names<'_> {
+    fn fmt<W: fmt::Write>(&self, f: &mut fmt::Formatter<W>) -> fmt::Result {
+        for word in self.0 {
+            let name = Named(text_of(word));
+            write!(f, " {name}")?;
+        }
+        Ok(())
+    }
+}
+
 /// A word in quotation marks: in single ones, where nothing in it steers a terminal.
 #[derive(Clone, Copy)]
 pub struct Quoted<'a>(pub &'a str);

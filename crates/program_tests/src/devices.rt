@@ -75,7 +75,7 @@ fn says_which_device_failed(rt: HostRuntime) -> Result<(), Fail> {
             &mut sink,
             &NoGate,
         );
-        assert_eq!(rt; ended, status, "{text}");
+        assert_eq!(rt; ended.status, status, "{text}");
         assert_eq!(rt; sink.bytes(), text.as_bytes(), "{text}");
     }
     Ok(())

@@ -56,8 +56,8 @@ fn merges(alloc: Global) -> Result<(), NotMade> {
     let mut shelf = SteadyShelf::new(files);
     let mut sink = SteadySink::new(alloc);
     sink.reserve(MERGED.len())?;
-    let status = plex_merge(alloc, words.as_slice(), &mut shelf, &mut sink);
-    if status == Status::Done && sink.bytes() == MERGED.as_bytes() {
+    let end = plex_merge(alloc, words.as_slice(), &mut shelf, &mut sink);
+    if end.status == Status::Done && sink.bytes() == MERGED.as_bytes() {
         Ok(())
     } else {
         Err(NotMade)

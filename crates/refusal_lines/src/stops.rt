@@ -1,14 +1,14 @@
 // The lines that are written in place of a report, and the stops that tell them.
 ghost use Rattle.std.specs.Prelude.{◌≡◌, ◌++◌, IfOk, OnOk};
 ghost use Rattle.std.specs.List.{flat_map};
-ghost use Rattle.answer_meaning.specs.Stages.{IsRefusal, IsStopOf, IsStopWith};
+ghost use Rattle.answer_meaning.specs.Stages.{IsStopOf, IsStopWith};
 ghost use Rattle.answer_meaning.specs.Text.{certificate_refusal, certificate_text, fact_text};
 ghost use Rattle.answer_meaning.specs.Text.{filter_refusal, link_name, numbered_name};
 ghost use Rattle.answer_meaning.specs.Text.{other_exchange, rule_line, rule_name, shape_numbers};
 ghost use Rattle.answer_meaning.specs.Text.{signals_refusal, source_refusal, source_words, spaced};
 ghost use Rattle.answer_meaning.specs.Text.{table_refusal};
 
-use answer_meaning::{Answer, CertificateFault, Rule, SourceFault, Stop, Which};
+use answer_meaning::{Answer, CertificateFault, FileFault, Rule, SourceFault, Stop, Which};
 use certificate_text::{Shape, print_fact};
 use command_words::Status;
 use flow_points::Fact;
@@ -26,7 +26,12 @@ pub fn source_stop(alloc: Global, which: Which, fault: SourceFault) -> Stop
     ensures { IsStopOf (source_refusal which fault) result }
 {
     let line = source_line(alloc, source_words(which), fault);
-    stop_with(alloc, Status::Source, line)
+    stop_with(
+        alloc,
+        FileFault::Source { which, fault },
+        Status::Source,
+        line,
+    )
 }
 
 /// The words in front of the line of a fault of an exchange text.
@@ -46,7 +51,7 @@ pub fn signals_stop(alloc: Global, fault: SignalsFault) -> Stop
 {
     let rule = fault.rule.word();
     let line = line_of(alloc, b"SIGNALS line ", fault.line, rule);
-    stop_with(alloc, Status::Signals, line)
+    stop_with(alloc, FileFault::Signals(fault), Status::Signals, line)
 }
 
 /// The stop at a fault of a certificate.
@@ -55,7 +60,12 @@ pub fn certificate_stop(alloc: Global, fault: CertificateFault) -> Stop
     ensures { IsStopOf (certificate_refusal fault) result }
 {
     let line = certificate_line(alloc, fault);
-    stop_with(alloc, Status::Certificate, line)
+    stop_with(
+        alloc,
+        FileFault::Certificate(fault),
+        Status::Certificate,
+        line,
+    )
 }
 
 /// The stop at a fault of a table.
@@ -65,7 +75,7 @@ pub fn table_stop(alloc: Global, fault: TableFault) -> Stop
 {
     let rule = fault.rule.word();
     let line = line_of(alloc, b"TABLE line ", fault.line, rule);
-    stop_with(alloc, Status::Table, line)
+    stop_with(alloc, FileFault::Table(fault), Status::Table, line)
 }
 
 /// The stop at a fault of a filter.
@@ -75,19 +85,22 @@ pub fn filter_stop(alloc: Global, fault: FilterFault) -> Stop
 {
     let rule = fault.rule.word();
     let line = line_of(alloc, b"FILTER line ", fault.line, rule);
-    stop_with(alloc, Status::Filter, line)
+    stop_with(alloc, FileFault::Filter(fault), Status::Filter, line)
 }
 
-/// The stop with this status and line, or for want of memory, where there was none for the line.
-fn stop_with(alloc: Global, status: Status, line: Result<Seq<u8>, Memory>) -> Stop
-    requires { IsRefusal status }
-    ensures { IsStopWith status line result }
+/// The stop with this fault, status and line, or for want of memory, where there was none for the
+/// line.
+fn stop_with(alloc: Global, fault: FileFault, status: Status, line: Result<Seq<u8>, Memory>) -> Stop
+    ensures { IsStopWith fault status line result }
 {
     match line {
-        Ok(text) => Stop::Told(Answer {
-            status,
-            text: Text::whole(alloc, text),
-        }),
+        Ok(text) => Stop::Told {
+            answer: Answer {
+                status,
+                text: Text::whole(alloc, text),
+            },
+            fault,
+        },
         Err(Memory) => Stop::Memory,
     }
 }

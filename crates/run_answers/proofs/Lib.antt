@@ -1,3 +1,4 @@
 pub mod Carrying
+pub mod Misfitting
 pub mod Opened
 pub mod Telling

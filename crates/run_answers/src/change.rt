@@ -7,12 +7,12 @@ ghost use Rattle.block_change.specs.Misfits.{misfit};
 ghost use Rattle.run_books.specs.Events.{ending_of};
 ghost use Rattle.run_books.specs.Parts.{AreParts, account_of};
 ghost use Rattle.report_text.specs.Report.{event_lines, text_of};
-ghost use Rattle.answer_meaning.specs.ChangeAnswer.{ends_before, misfit_answer};
-ghost use Rattle.answer_meaning.specs.Program.{IsEnding};
-ghost use Rattle.answer_meaning.specs.Text.{change_text, file_words, misfit_text};
+ghost use Rattle.answer_meaning.specs.ChangeAnswer.{ends_before};
+ghost use Rattle.answer_meaning.specs.Stages.{IsStopOf};
+ghost use Rattle.answer_meaning.specs.Text.{change_text, file_words, misfit_refusal, misfit_text};
 ghost use Rattle.run_answers.specs.Runs.{CarriesOn};
 
-use answer_meaning::Answer;
+use answer_meaning::{Answer, FileFault, Stop};
 use block_change::{Misfit, Named, carry};
 use command_words::Status;
 use exchange_model::Exchange;
@@ -32,16 +32,21 @@ pub struct Change<'a> {
     pub at: u32,
 }
 
-/// The answer with what the new exchange has not. Memory is the only reason for an error.
-pub fn misfit_answer(alloc: Global, old: &Exchange, misfit: Misfit) -> Result<Answer, Memory>
-    ensures answer { IfOk result (λ a. a ≡ misfit_answer old.now misfit) }
-    ensures ending { IfOk result (λ a. IsEnding a.status) }
+/// The stop with what the new exchange has not.
+#[tactic(auto, using(crate::proofs::Misfitting::misfit_told))]
+pub fn misfit_stop(alloc: Global, old: &Exchange, misfit: Misfit) -> Stop
+    ensures { IsStopOf (misfit_refusal old.now misfit) result }
 {
-    let text = misfit_text(alloc, old, misfit)?;
-    Ok(Answer {
-        status: Status::Change,
-        text: Text::whole(alloc, text),
-    })
+    match misfit_text(alloc, old, misfit) {
+        Ok(text) => Stop::Told {
+            answer: Answer {
+                status: Status::Change,
+                text: Text::whole(alloc, text),
+            },
+            fault: FileFault::Change(misfit),
+        },
+        Err(Memory) => Stop::Memory,
+    }
 }
 
 /// `CHANGE ENTRY SIG BLOCK` or `CHANGE FILE BLOCK.FILE`.

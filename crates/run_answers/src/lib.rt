@@ -9,6 +9,6 @@ mod change;
 mod ends;
 mod shortness;
 
-pub use change::{Change, carried_run, ends_before, misfit_answer, text_before};
+pub use change::{Change, carried_run, ends_before, misfit_stop, text_before};
 pub use ends::{end_answer, headed_answer, summed_answer};
 pub use shortness::has_short_code;

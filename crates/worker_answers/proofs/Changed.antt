@@ -35,11 +35,14 @@ use Rattle.answer_meaning.specs.RunAnswer.{end_of, ended_answer, ending_answer, 
 use Rattle.answer_meaning.specs.RunAnswer.{run_answer}
 use Rattle.answer_meaning.specs.ChangeAnswer.{AnswersChange, ChangesOrNot, IsChanged}
 use Rattle.answer_meaning.specs.ChangeAnswer.{changed_answer, ends_before, further_answer}
-use Rattle.answer_meaning.specs.ChangeAnswer.{is_changed, misfit_answer}
+use Rattle.answer_meaning.specs.ChangeAnswer.{is_changed}
+use Rattle.answer_meaning.specs.Stages.{IsStopOf, TellsOutcome}
+use Rattle.answer_meaning.proofs.Stages.{refused_so, told_memory}
 use Rattle.answer_meaning.specs.Lines.{AreRead}
 use Rattle.run_answers.specs.Runs.{CarriesOn, IsRunOf}
-use Rattle.answer_meaning.specs.Text.{change_text}
+use Rattle.answer_meaning.specs.Text.{change_text, misfit_refusal}
 use Rattle.answer_meaning.specs.declared.answer.Answer.{Answer}
+use Rattle.answer_meaning.specs.declared.answer.Stop.{Stop}
 use Rattle.run_answers.proofs.Telling.{answer_is}
 
 -- ## A run that ends after fewer jobs at the latest, beside the same run with a higher limit
@@ -147,15 +150,17 @@ at_few at jobs most le few = omega (arith, le, few)
 
 -- whether it fits
 
-pub answers_misfit : (x y : Exchange) (lines : List Line) (jobs at : ℕ) (found : Option Misfit) (m : Misfit)
-    (r : Result Answer Memory) → found ≡ misfit x y → found ≡ Some m → IfOk r (λ a. a ≡ misfit_answer x m)
-    → IfOk r (AnswersChange x y lines jobs at (misfit x y))
-answers_misfit x y lines jobs at found m r same is told = subst (λ o. IfOk r (AnswersChange x y lines jobs at o)) (sym is ∙ same) told
+pub answers_misfit : (x y : Exchange) (lines : List Line) (jobs at : ℕ) (found : Option Misfit) (m : Misfit) (s : Stop)
+    → found ≡ misfit x y → found ≡ Some m → IsStopOf (misfit_refusal x m) s
+    → TellsOutcome (AnswersChange x y lines jobs at (misfit x y)) (Err s)
+answers_misfit x y lines jobs at found m s same is stops =
+    subst (λ o. TellsOutcome (AnswersChange x y lines jobs at o) (Err s)) (sym is ∙ same)
+    (refused_so (Err (misfit_refusal x m)) (misfit_refusal x m) s refl stops)
 
-pub answers_fit : (x y : Exchange) (lines : List Line) (jobs at : ℕ) (found : Option Misfit) (r : Result Answer Memory)
-    → found ≡ misfit x y → found ≡ None → IfOk r (ChangesOrNot x y lines jobs at (is_changed x lines jobs at))
-    → IfOk r (AnswersChange x y lines jobs at (misfit x y))
-answers_fit x y lines jobs at found r same is told = subst (λ o. IfOk r (AnswersChange x y lines jobs at o)) (sym is ∙ same) told
+pub answers_fit : (x y : Exchange) (lines : List Line) (jobs at : ℕ) (found : Option Misfit) (a : Answer)
+    → found ≡ misfit x y → found ≡ None → ChangesOrNot x y lines jobs at (is_changed x lines jobs at) a
+    → TellsOutcome (AnswersChange x y lines jobs at (misfit x y)) (Ok a)
+answers_fit x y lines jobs at found a same is told = subst (λ o. AnswersChange x y lines jobs at o (Ok a)) (sym is ∙ same) told
 
 -- no change
 
@@ -286,6 +291,6 @@ changes x y before jobs at run end front a on over begins told = record { carrie
     answers : a ≡ changed_answer x y before t jobs at
     answers = told ∙ ap (λ f. headed_by f (ending_answer y end)) begins ∙ ap (headed_by (text_of (event_lines x before.events) ++ change_text at)) further
 
-pub ruleset change_rules = (answers_misfit, answers_fit, never_reached)
+pub ruleset change_rules = (answers_misfit, answers_fit, told_memory)
 
-pub ruleset fitting_rules = (not_changed, is_changed_so, parts_few, parts_stand)
+pub ruleset reached_rules = (not_changed, is_changed_so, parts_few, parts_stand)

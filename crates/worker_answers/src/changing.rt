@@ -3,7 +3,7 @@ ghost use Rattle.std.specs.Prelude.{◌≡◌, ◌≤◌, IfOk, None};
 ghost use Rattle.store_layout.specs.Laid.{IsLayout};
 ghost use Rattle.block_change.specs.Carried.{AreStanding, state_with};
 ghost use Rattle.block_change.specs.Misfits.{misfit};
-ghost use Rattle.answer_meaning.specs.Stages.{Performs};
+ghost use Rattle.answer_meaning.specs.Stages.{Performs, TellsOutcome};
 ghost use Rattle.answer_meaning.specs.ChangeAnswer.{ChangeAnswers, ChangeComes, ChangesOrNot};
 ghost use Rattle.answer_meaning.specs.ChangeAnswer.{IsChanged, is_changed};
 ghost use Rattle.answer_meaning.specs.Program.{IsEnding};
@@ -22,7 +22,7 @@ use parallel_dispatch::Host;
 use plex_io::{Gate, Shelf};
 use plex_num::{Memory, Seq};
 use run_answers::{
-    Change, carried_run, end_answer, ends_before, headed_answer, misfit_answer, text_before,
+    Change, carried_run, end_answer, ends_before, headed_answer, misfit_stop, text_before,
 };
 use run_books::BookParts;
 use signal_file::Line;
@@ -45,12 +45,13 @@ pub fn perform_change<R: Threads + Wait + Sync, S: Shelf, G: Gate + Sync>(
     let old = known_in(host.alloc, shelf, &words.run.exchange)?;
     let lines = lines_in(host.alloc, shelf, &old, &words.run.signals)?;
     let new = exchange_as(host.alloc, shelf, &words.new, Which::New)?;
-    let answer = answer_between(host, &old.exchange, &new, words.at, lines, words.run.bounds)?;
-    Ok(answer)
+    answer_between(host, &old.exchange, &new, words.at, lines, words.run.bounds)
 }
 
-/// The answer of a change from one exchange to another after so many jobs. What the new one has by
-/// its names is found here, once.
+/// The answer of a change from one exchange to another after so many jobs. It stops where the new
+/// one does not fit, and where memory is refused. What the new one has by its names is found here,
+/// once.
+#[tactic(auto, using(answer_meaning::proofs::Stages::told_memory))]
 fn answer_between<R: Threads + Wait + Sync, G: Gate + Sync>(
     host: &Host<'_, R, G>,
     old: &Exchange,
@@ -58,10 +59,10 @@ fn answer_between<R: Threads + Wait + Sync, G: Gate + Sync>(
     at: u32,
     lines: Seq<Line>,
     bounds: Bounds,
-) -> Result<Answer, Memory>
+) -> Result<Answer, Stop>
     requires lines { AreRead old.now lines }
     requires bounds { AreWithin bounds }
-    ensures answer { IfOk result (ChangeAnswers old.now new.now lines bounds.jobs at) }
+    ensures told { TellsOutcome (ChangeAnswers old.now new.now lines bounds.jobs at) result }
     ensures ending { IfOk result (λ a. IsEnding a.status) }
 {
     let named = Named::of(host.alloc, new)?;
@@ -73,36 +74,57 @@ fn answer_between<R: Threads + Wait + Sync, G: Gate + Sync>(
     change_answer(host, &change, lines, bounds)
 }
 
-/// The answer of a change: what the new exchange has not, or else that of the run, which goes on
-/// there where it may have so many jobs.
+/// The answer of a change: the stop with what the new exchange has not, or else the answer of the
+/// run.
 #[tactic(auto, using(crate::proofs::Changed::change_rules))]
 fn change_answer<R: Threads + Wait + Sync, G: Gate + Sync>(
     host: &Host<'_, R, G>,
     change: &Change<'_>,
     lines: Seq<Line>,
     bounds: Bounds,
-) -> Result<Answer, Memory>
+) -> Result<Answer, Stop>
     requires lines { AreRead change.now.old.now lines }
     requires bounds { AreWithin bounds }
-    ensures answer { IfOk result (ChangeAnswers change.now.old.now
-        change.now.new.now.exchange.now lines bounds.jobs change.now.at) }
+    ensures told { TellsOutcome (ChangeAnswers change.now.old.now
+        change.now.new.now.exchange.now lines bounds.jobs change.now.at) result }
     ensures ending { IfOk result (λ a. IsEnding a.status) }
 {
     match misfit_of(change.old, change.new) {
-        Some(misfit) => misfit_answer(host.alloc, change.old, misfit),
+        Some(misfit) => Err(misfit_stop(host.alloc, change.old, misfit)),
         None => {
-            if change.at > bounds.jobs {
-                return run_answer(host, change.old, Way::Code, None, lines, bounds);
-            }
-            fitting_answer(host, change, lines, bounds)
+            let answer = fitting_answer(host, change, lines, bounds)?;
+            Ok(answer)
         }
     }
 }
 
-/// The answer of the run with an exchange that fits: it goes on there after so many jobs where it
-/// has them, and has not stopped with the last of them.
-#[tactic(auto, using(crate::proofs::Changed::fitting_rules))]
+/// The answer of the run with an exchange that fits, which goes on there where it may have so many
+/// jobs.
+#[tactic(auto, using(crate::proofs::Changed::never_reached))]
 fn fitting_answer<R: Threads + Wait + Sync, G: Gate + Sync>(
+    host: &Host<'_, R, G>,
+    change: &Change<'_>,
+    lines: Seq<Line>,
+    bounds: Bounds,
+) -> Result<Answer, Memory>
+    requires fits { misfit change.now.old.now change.now.new.now.exchange.now ≡ None }
+    requires lines { AreRead change.now.old.now lines }
+    requires bounds { AreWithin bounds }
+    ensures answer { IfOk result
+        (ChangesOrNot change.now.old.now change.now.new.now.exchange.now lines bounds.jobs
+        change.now.at (is_changed change.now.old.now lines bounds.jobs change.now.at)) }
+    ensures ending { IfOk result (λ a. IsEnding a.status) }
+{
+    if change.at > bounds.jobs {
+        return run_answer(host, change.old, Way::Code, None, lines, bounds);
+    }
+    reached_answer(host, change, lines, bounds)
+}
+
+/// The answer of the run that may have so many jobs: it goes on with the other exchange after them
+/// where it has them, and has not stopped with the last of them.
+#[tactic(auto, using(crate::proofs::Changed::reached_rules))]
+fn reached_answer<R: Threads + Wait + Sync, G: Gate + Sync>(
     host: &Host<'_, R, G>,
     change: &Change<'_>,
     lines: Seq<Line>,

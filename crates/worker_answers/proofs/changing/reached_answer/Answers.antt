@@ -2,7 +2,7 @@ use Rattle.std.proofs.Common.{sym, ◌∙◌}
 use Rattle.run_answers.proofs.Opened.{ends_at, limit_few}
 use Rattle.worker_answers.proofs.Changed.{at_few, is_changed_so, not_changed, parts_few}
 use Rattle.worker_answers.proofs.Changed.{parts_stand}
-use Rattle.worker_answers.proofs.changing.fitting_answer.Goals as goal
+use Rattle.worker_answers.proofs.changing.reached_answer.Goals as goal
 
 pub before_lines-requires-clause-limit : goal.before_lines-requires-clause-limit
 before_lines-requires-clause-limit g c = limit_few _ _ c.from.ensures (at_few _ _ _ c.requires.reached c.requires.bounds.jobs)
