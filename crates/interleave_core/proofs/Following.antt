@@ -220,6 +220,15 @@ module _ (x : Exchange) (kept : IsExchange x) (code : Code) (faithful : Faithful
   follows_runs workers [] c d f is = subst Follows (sym is) f
   follows_runs workers (e ∷ es) c d f r = follows_runs workers es (after_event x code facts workers c e r.0) d (follows_event workers c e r.0 f) r.1
 
+  -- before the first event no job stands in the window
+  pub first_shares : (s : State) → IsValid x first → s ≡ first → Shares x code (MayFollow facts) first [] s
+  first_shares s v is = record {
+    valid = v;
+    ahead = subst (AreAhead x first []) (sym is) (ahead_none x first first.store);
+    passes = tt;
+    words = ap (λ (t : State). t.store) is;
+  }
+
   -- before the first event
   pub follows_first : (c : Core) → IsValid x first → arrivals x first ≡ first → c.state ≡ first → c.window ≡ [] → c.retired ≡ 0 → Follows c
   unfolding after
@@ -228,12 +237,7 @@ module _ (x : Exchange) (kept : IsExchange x) (code : Code) (faithful : Faithful
     jobs = [];
     turn_is = sym quiet ∙ ap (after x first) (sym zero_now);
     window = none;
-    shares = record {
-      valid = v;
-      ahead = subst (AreAhead x first []) (sym is) (ahead_none x first first.store);
-      passes = tt;
-      words = ap (λ (t : State). t.store) is;
-    };
+    shares = first_shares c.state v is;
   }
 
   -- ## What follows from it

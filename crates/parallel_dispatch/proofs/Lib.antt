@@ -12,7 +12,7 @@ pub mod Retiring
 pub mod Reaching
 pub mod Standing
 pub mod Leaving
-pub mod Desking
+pub mod DispatcherMoves
 pub mod Passing
 pub mod Choosing
 pub mod Moving

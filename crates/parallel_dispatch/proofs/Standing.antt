@@ -16,12 +16,10 @@ use Rattle.std.specs.Option.{option_map_or}
 use Rattle.job_types.specs.declared.job.JobStart.{JobStart}
 use Rattle.machine_code.specs.Coded.{Code}
 use Rattle.exchange_model.specs.declared.exchange.Exchange.{Exchange}
-use Rattle.exchange_model.specs.Cells.{cell_count}
 use Rattle.exchange_model.specs.Kept.{IsExchange}
 use Rattle.source_meaning.specs.Arrivals.{arrivals}
 use Rattle.source_meaning.specs.Job.{job}
-use Rattle.source_meaning.specs.SingleRun.{Ending, after, begun, ended_as, ending_at, jobs_at_end}
-use Rattle.source_meaning.specs.SingleRun.{next_start}
+use Rattle.source_meaning.specs.SingleRun.{after, begun, ended_as, ending_at, next_start}
 use Rattle.source_meaning.specs.State.{State, has_stopped}
 use Rattle.source_meaning.specs.Valid.{IsValid}
 use Rattle.source_meaning.proofs.Retiring.{after_valid}
@@ -34,7 +32,6 @@ use Rattle.exchange_run.proofs.Turning.{goes_on, some_start, upcoming_is}
 use Rattle.shared_store.specs.declared.view.Lent.{Lent}
 use Rattle.shared_store.specs.declared.view.Top.{Top}
 use Rattle.shared_store.specs.Loans.{unlent}
-use Rattle.parallel_dispatch.specs.Ends.{EndsAs}
 use Rattle.interleave_core.specs.Runs.{Runs}
 use Rattle.parallel_dispatch.specs.Events.{IsReached, first_core}
 use Rattle.parallel_dispatch.specs.Made.{NoJob}
@@ -129,11 +126,3 @@ module _ (x : Exchange) (k : KeptSummaries) (code : Code) (kept : IsExchange x) 
     -- in the end the root has lent nothing
     pub none_lent : (steps : ℕ) → IsReached x k code workers first limit books top [] steps → top ≡ unlent top.values
     none_lent steps g = (let bare = bare_of x k (after x first g.retired) books top g.fly in λ i. record { values = top.values; loans = bare i })
-
--- in the end there is a word for each cell
-pub words_at_end : (x : Exchange) (code : Code) (first : State) (limit : ℕ) (books : State) (words : List ℕ)
-    (e : Ending) (steps : ℕ) → IsExchange x → IsValid x first → EndsAs x code first limit books words e steps
-    → length words ≡ cell_count x.blocks
-words_at_end x code first limit books words e steps kept valid ends =
-    let there : IsValid x (after x first (jobs_at_end x limit first)) = after_valid x kept first (jobs_at_end x limit first) valid in
-    ap (λ (s : State). length s.store) ends.state ∙ there.store.whole ∙ kept.numbered.cells

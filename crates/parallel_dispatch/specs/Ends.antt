@@ -5,7 +5,7 @@ use Rattle.machine_code.specs.Coded.{Code}
 use Rattle.exchange_model.specs.declared.exchange.Exchange.{Exchange}
 use Rattle.source_meaning.specs.SingleRun.{Ending, end_state, ending_at, jobs_at_end}
 use Rattle.source_meaning.specs.State.{State}
-use Rattle.run_books.specs.Accounts.{with_words}
+use Rattle.run_books.specs.Accounts.{Account, with_words}
 use Rattle.run_books.specs.Events.{ending_of}
 use Rattle.source_meaning.specs.Valid.{IsValid}
 use Rattle.checked.specs.Kept.{KeptSummaries}
@@ -61,6 +61,12 @@ pub record IsRunRest (x : Exchange) (code : Code) (k : KeptSummaries) (workers :
   pub way : IsOnTheWay x first limit run.there
   pub led : AreLedTo (setting x code k workers) first limit run.there.books.state run.there.words
       run.steps
+
+-- where the run is over by these books, it rests at its end
+abbrev pub IsEndWhereOver : Exchange → Code → State → ℕ → Account → Rested → Type 0
+IsEndWhereOver x code first limit books run =
+    (e : Ending) → Some e ≡ ending_at books.limit books.state
+    → EndsAs x code first limit run.there.books.state run.there.words e run.steps
 
 -- the run has come to its end, or rests on its way
 abbrev pub IsRunTo : Exchange → Code → KeptSummaries → ℕ → State → ℕ → Dispatched → Type 0

@@ -8,4 +8,4 @@ pub mod Events
 pub mod Ends
 pub mod Windows
 pub mod Moves
-pub mod Desks
+pub mod DispatcherStates

@@ -19,7 +19,7 @@ pub(crate) trait Course: Naming {
 }
 
 impl Course for Brand {
-    ghost use Rattle.parallel_dispatch.specs.Desks.{no_kept, no_state};
+    ghost use Rattle.parallel_dispatch.specs.DispatcherStates.{no_kept, no_state};
 
     ghost kept = { no_kept };
 

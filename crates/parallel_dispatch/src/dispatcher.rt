@@ -4,7 +4,7 @@ ghost use Rattle.lone_job.specs.Contexts.{IsContext};
 ghost use Rattle.parallel_dispatch.specs.Ends.{IsDispatched, IsOver, MayStart};
 ghost use Rattle.parallel_dispatch.specs.Moves.{IsBare};
 
-use crate::hall::Host;
+use crate::thread_setup::Host;
 use crate::threads::run_named;
 use exchange_run::Standing;
 use lone_job::RunContext;

@@ -2,7 +2,7 @@
 ghost use Rattle.std.specs.Prelude.{◌≡◌};
 ghost use Rattle.worker_pool.specs.Ways.{AreMeans};
 
-use crate::hall::Hall;
+use crate::thread_setup::ThreadSetup;
 use crate::window::Window;
 use interference_check::PairTable;
 use job_pace::{Pace, Way};
@@ -14,19 +14,19 @@ use worker_pool::{Naming, start_workers};
 /// Runs a job that waits for a thread, where enough do, each worker has one, and the oldest that
 /// flies is not in hand.
 pub(crate) fn relieve<B: Naming, R: Wait, G: Gate>(
-    hall: &Hall<'_, B, R, G>,
+    setup: &ThreadSetup<'_, B, R, G>,
     pace: &Pace,
     window: &Window<B>,
 )
-    requires means { AreMeans B.exchange B.code B.store hall.now.means }
+    requires means { AreMeans B.exchange B.code B.store setup.now.means }
 {
-    let shop = hall.shop;
+    let queue = setup.queue;
     if window.len() > 0
-        && pace.are_enough(shop.waiting())
-        && shop.are_all_busy()
+        && pace.are_enough(queue.waiting())
+        && queue.are_all_busy()
         && !window.oldest_is_in_hand()
     {
-        shop.help(hall.rt, &hall.means, hall.gate);
+        queue.help(setup.rt, &setup.means, setup.gate);
     }
 }
 
@@ -40,13 +40,13 @@ pub(crate) fn way_for<
     G: Gate + Sync,
 >(
     scope: &'s Scope<'s, &'e ()>,
-    hall: &Hall<'e, B, R, G>,
+    setup: &ThreadSetup<'e, B, R, G>,
     entry: u32,
     pairs: &mut PairTable<'_>,
     pace: &mut Pace,
     window: &Window<B>,
 ) -> Way
-    requires means { AreMeans B.exchange B.code B.store hall.now.means }
+    requires means { AreMeans B.exchange B.code B.store setup.now.means }
     ensures { pairs.new ≡ pairs.old }
 {
     let way = pace.way(pairs, entry, window.len());
@@ -57,11 +57,11 @@ pub(crate) fn way_for<
     if let Some(oldest) = window.oldest_entry() {
         pace.has_company(oldest);
     }
-    let shop = hall.shop;
+    let queue = setup.queue;
     let wanted = pace.threads_for(entry, window.len());
-    shop.wakes_for(pace.batch(entry));
-    shop.spares(pace.spare(shop.started()));
-    start_workers(hall.rt, scope, shop, &hall.means, hall.gate, wanted);
+    queue.wakes_for(pace.batch(entry));
+    queue.spares(pace.spare(queue.started()));
+    start_workers(setup.rt, scope, queue, &setup.means, setup.gate, wanted);
     way
 }
 
@@ -73,12 +73,12 @@ pub(crate) fn hire_meanwhile<
     B: Naming + Send + Sync,
     R: Threads + Wait + Sync,
     G: Gate + Sync,
->(scope: &'s Scope<'s, &'e ()>, hall: &Hall<'e, B, R, G>, pace: &Pace, window: &Window<B>)
-    requires means { AreMeans B.exchange B.code B.store hall.now.means }
+>(scope: &'s Scope<'s, &'e ()>, setup: &ThreadSetup<'e, B, R, G>, pace: &Pace, window: &Window<B>)
+    requires means { AreMeans B.exchange B.code B.store setup.now.means }
 {
-    let shop = hall.shop;
-    if shop.waiting() > 0 && !window.oldest_has_ended(shop) {
-        let wanted = pace.threads_beside(shop.started());
-        start_workers(hall.rt, scope, shop, &hall.means, hall.gate, wanted);
+    let queue = setup.queue;
+    if queue.waiting() > 0 && !window.oldest_has_ended(queue) {
+        let wanted = pace.threads_beside(queue.started());
+        start_workers(setup.rt, scope, queue, &setup.means, setup.gate, wanted);
     }
 }

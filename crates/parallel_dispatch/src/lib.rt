@@ -10,13 +10,13 @@
 #![tactic(auto)]
 
 mod course;
-mod desk;
 mod dispatcher;
+mod dispatcher_state;
 mod driving;
-mod hall;
 mod moves;
+mod thread_setup;
 mod threads;
 mod window;
 
 pub use dispatcher::{Dispatched, Ended, Rested, StoredRun, dispatch};
-pub use hall::Host;
+pub use thread_setup::Host;

@@ -16,7 +16,7 @@ ghost use Rattle.parallel_dispatch.specs.Moves.{IsBare, IsLeft, MayIssue, MayMov
 ghost use Rattle.parallel_dispatch.specs.Moves.{StandBeside, Suits};
 
 use crate::course::Course;
-use crate::hall::Hall;
+use crate::thread_setup::ThreadSetup;
 use crate::window::{Oldest, Window};
 use interference_check::PairTable;
 use job_pace::{Pace, Way};
@@ -31,7 +31,7 @@ use shared_store::RootSeat;
 use std::alloc::Global;
 use std::marker::Brand;
 use std::sync::Wait;
-use worker_pool::{Flight, Naming, Shop};
+use worker_pool::{Flight, Naming, WorkQueue};
 
 /// What the dispatcher does next.
 #[derive(Clone, Copy)]
@@ -60,7 +60,7 @@ pub(crate) fn next_move<B: Naming>(
     books: &Books,
     window: &Window<B>,
     pairs: &mut PairTable<'_>,
-    shop: &Shop<B>,
+    queue: &WorkQueue<B>,
     pace: &mut Pace,
 ) -> Move
     requires room { 0 < window.now.room }
@@ -72,7 +72,7 @@ pub(crate) fn next_move<B: Naming>(
     ensures may { MayMove pairs.old books.now window.now result }
     ensures kept { pairs.new ≡ pairs.old }
 {
-    if waits_for_oldest(window, shop, pace) {
+    if waits_for_oldest(window, queue, pace) {
         return Move::Retire;
     }
     let flying = window.len();
@@ -110,14 +110,14 @@ pub(crate) fn next_move<B: Naming>(
 /// Whether the oldest retires before the next job is looked at: it has ended and no thread wants
 /// for a job, or the next job is known to wait for it, or enough others wait for a thread and the
 /// oldest is in hand.
-fn waits_for_oldest<B: Naming>(window: &Window<B>, shop: &Shop<B>, pace: &Pace) -> bool
+fn waits_for_oldest<B: Naming>(window: &Window<B>, queue: &WorkQueue<B>, pace: &Pace) -> bool
     ensures { IsTrue result → 0 < length window.now.loans }
 {
     window.len() > 0
         && (pace.must_wait()
             || window.len() >= window.room()
-            || (window.oldest_has_ended(shop) && pace.are_fed(shop.waiting(), window.len()))
-            || (pace.are_enough(shop.waiting()) && window.oldest_is_in_hand()))
+            || (window.oldest_has_ended(queue) && pace.are_fed(queue.waiting(), window.len()))
+            || (pace.are_enough(queue.waiting()) && window.oldest_is_in_hand()))
 }
 
 /// Whether so many jobs and one more have retired before the next line comes.
@@ -142,14 +142,14 @@ fn is_sum_below(a: u64, b: u64, most: u64) -> bool
 /// One more job flies, which may, in this way.
 #[tactic(auto, using(crate::proofs::Choosing::some_next))]
 pub(crate) fn issue<B: Course, R: Wait, G: Gate>(
-    hall: &Hall<'_, B, R, G>,
+    setup: &ThreadSetup<'_, B, R, G>,
     way: Way,
     books: &mut Books,
     root: &mut RootSeat,
     window: &mut Window<B>,
 ) -> Result<(), Memory>
     requires suits { Suits B.exchange B.code B.store B.book B.kept B.workers
-        hall.now.context hall.now.means hall.now.book.now }
+        setup.now.context setup.now.means setup.now.book.now }
     requires next { MayIssue B.kept books.old window.old }
     requires beside { StandBeside B.exchange B.kept B.store
         books.old root.old window.old }
@@ -164,13 +164,13 @@ pub(crate) fn issue<B: Course, R: Wait, G: Gate>(
     let Some(next) = books.next_job() else {
         unreachable!()
     };
-    let made = with_run(hall.alloc, window, next)?;
+    let made = with_run(setup.alloc, window, next)?;
     let (place, mut run) = made;
     let start: &JobStart = &place;
-    run.begin(hall.means.code, start);
-    let seat = hall.means.store.lend_as::<Brand>(root, start);
-    let flight = window.launch(hall.book, seat, run, job);
-    let flight = set_out(hall, way, flight);
+    run.begin(setup.means.code, start);
+    let seat = setup.means.store.lend_as::<Brand>(root, start);
+    let flight = window.launch(setup.book, seat, run, job);
+    let flight = set_out(setup, way, flight);
     window.push(flight, place);
     Ok(())
 }
@@ -194,17 +194,17 @@ fn with_run<B: Naming>(
 
 /// A flight that is in hand goes this way.
 fn set_out<B: Naming, R: Wait, G: Gate>(
-    hall: &Hall<'_, B, R, G>,
+    setup: &ThreadSetup<'_, B, R, G>,
     way: Way,
     flight: Flight<B>,
 ) -> Flight<B>
-    requires means { AreMeans B.exchange B.code B.store hall.now.means }
+    requires means { AreMeans B.exchange B.code B.store setup.now.means }
     ensures { result ≡ flight }
 {
     match way {
         Way::InHand => flight,
-        Way::Brought => flight.bring(hall.rt, hall.shop),
-        Way::Here => flight.run_here(&hall.means, hall.gate),
+        Way::Brought => flight.bring(setup.rt, setup.queue),
+        Way::Here => flight.run_here(&setup.means, setup.gate),
     }
 }
 
@@ -212,14 +212,14 @@ fn set_out<B: Naming, R: Wait, G: Gate>(
 /// what is due arrives.
 #[tactic(auto, using(crate::proofs::Leaving::left_nothing))]
 pub(crate) fn run_alone<B: Course, R, G: Gate>(
-    hall: &Hall<'_, B, R, G>,
+    setup: &ThreadSetup<'_, B, R, G>,
     pace: &mut Pace,
     books: &mut Books,
     root: RootSeat,
     window: &mut Window<B>,
 ) -> Result<Retired, RootSeat>
     requires suits { Suits B.exchange B.code B.store B.book B.kept B.workers
-        hall.now.context hall.now.means hall.now.book.now }
+        setup.now.context setup.now.means setup.now.book.now }
     requires next { MayRunAlone books.old window.old }
     requires goes_on { ending_at books.old.limit books.old.state ≡ None }
     requires beside { StandBeside B.exchange B.kept B.store
@@ -229,12 +229,12 @@ pub(crate) fn run_alone<B: Course, R, G: Gate>(
         books.old root.1 window.old books.new left window.new) }
     ensures left { IfErr result (λ back. IsLeft B.store back window.new.loans) }
 {
-    let Ok(run) = window.idle_run(hall.alloc) else {
+    let Ok(run) = window.idle_run(setup.alloc) else {
         return Err(root);
     };
     let mut run = run;
-    let store = hall.means.store;
-    let turn = turn_alone(&hall.context, store, hall.gate, books, root, &mut run);
+    let store = setup.means.store;
+    let turn = turn_alone(&setup.context, store, setup.gate, books, root, &mut run);
     window.keep_run(run);
     match turn {
         Ok(alone) => {
@@ -252,14 +252,14 @@ pub(crate) fn run_alone<B: Course, R, G: Gate>(
 /// The oldest job retires, once it has come to its end, and what is due arrives where no job is
 /// left. There must be one.
 pub(crate) fn retire<B: Course, R: Wait, G: Gate>(
-    hall: &Hall<'_, B, R, G>,
+    setup: &ThreadSetup<'_, B, R, G>,
     pace: &mut Pace,
     books: &mut Books,
     root: RootSeat,
     window: &mut Window<B>,
 ) -> Result<Retired, RootSeat>
     requires suits { Suits B.exchange B.code B.store B.book B.kept B.workers
-        hall.now.context hall.now.means hall.now.book.now }
+        setup.now.context setup.now.means setup.now.book.now }
     requires some { 0 < length window.old.loans }
     requires beside { StandBeside B.exchange B.kept B.store
         books.old root window.old }
@@ -279,17 +279,17 @@ pub(crate) fn retire<B: Course, R: Wait, G: Gate>(
     let entry = start.job.entry;
     let alone = (window.len() == 0) & flight.is_in_hand();
     pace.sets_down(entry, alone);
-    let (seat, run) = flight.finish(hall.rt, hall.shop, &hall.means, hall.book, hall.gate);
+    let (seat, run) = flight.finish(setup.rt, setup.queue, &setup.means, setup.book, setup.gate);
     let ended: &JobRun = &run;
     let steps = ended.steps();
     pace.has_ended(entry, length_of(ended));
     pace.has_made(steps, alone);
     pace.has_retired();
     let mut root = root;
-    let store = hall.means.store;
+    let store = setup.means.store;
     store.take_back(&mut root, seat);
     let done = ended.done();
-    let retired = retire_on_root(&hall.context, store, books, root, start, done);
+    let retired = retire_on_root(&setup.context, store, books, root, start, done);
     window.keep_run(run);
     match retired {
         Ok(root) => Ok(Retired { root, steps }),
@@ -306,11 +306,11 @@ pub(crate) struct Left<B: Naming> {
 /// All jobs that fly come to their ends, and give back their words: the root, which has lent
 /// nothing then.
 pub(crate) fn drain<B: Course, R: Wait, G: Gate>(
-    hall: &Hall<'_, B, R, G>,
+    setup: &ThreadSetup<'_, B, R, G>,
     left: Left<B>,
 ) -> RootSeat
     requires suits { Suits B.exchange B.code B.store B.book B.kept B.workers
-        hall.now.context hall.now.means hall.now.book.now }
+        setup.now.context setup.now.means setup.now.book.now }
     requires left { IsLeft B.store left.root left.window.loans }
     ensures { IsBare B.store result }
 {
@@ -323,7 +323,13 @@ pub(crate) fn drain<B: Course, R: Wait, G: Gate>(
             return root;
         };
         let Oldest { flight, start: _ } = oldest;
-        let (seat, _run) = flight.finish(hall.rt, hall.shop, &hall.means, hall.book, hall.gate);
-        hall.means.store.take_back(&mut root, seat);
+        let (seat, _run) = flight.finish(
+            setup.rt,
+            setup.queue,
+            &setup.means,
+            setup.book,
+            setup.gate,
+        );
+        setup.means.store.take_back(&mut root, seat);
     }
 }

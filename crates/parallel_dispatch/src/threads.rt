@@ -5,10 +5,10 @@ ghost use Rattle.parallel_dispatch.specs.Ends.{IsOver, IsRunTo};
 ghost use Rattle.parallel_dispatch.specs.Moves.{AreOf, IsBare, MayBegin, Suits};
 
 use crate::course::Course;
-use crate::desk::Desk;
 use crate::dispatcher::{Dispatched, StoredRun};
-use crate::hall::{Hall, Host};
+use crate::dispatcher_state::DispatcherState;
 use crate::moves::drain;
+use crate::thread_setup::{Host, ThreadSetup};
 use interference_check::PairTable;
 use job_pace::Pace;
 use lone_job::RunContext;
@@ -18,7 +18,7 @@ use std::sync::Wait;
 use std::thread;
 use std::thread::{Scope, Threads, available_parallelism};
 use ticket_book::{Pen, TicketBook};
-use worker_pool::{Means, Shop};
+use worker_pool::{Means, WorkQueue};
 
 /// Runs the jobs to the end of the run, or to where it rests. Memory is the only reason for an
 /// error, and the root has lent nothing then.
@@ -38,21 +38,21 @@ pub(crate) fn run_named<B: Course + Send + Sync, R: Threads + Wait + Sync, G: Ga
     ensures over { run.may_rest ≡ false → IfOk result (λ come. IsOver come) }
     ensures bare { IfErr result (λ root. IsBare B.store root) }
 {
-    let Ok(shop) = Shop::<B>::new(host.alloc, context.workers) else {
+    let Ok(queue) = WorkQueue::<B>::new(host.alloc, context.workers) else {
         return Err(run.root);
     };
-    run_shop(host, context, means, book, &shop, pen, run)
+    run_with_queue(host, context, means, book, &queue, pen, run)
 }
 
 /// The same with a place for the pool's jobs. What the threads see is handed to the closure one by
-/// one, and the hall is put together in it: of a closure that captures structs of references
-/// contracts follow nothing.
-fn run_shop<'x, B: Course + Send + Sync, R: Threads + Wait + Sync, G: Gate + Sync>(
+/// one, and the setup of the threads is put together in it: of a closure that captures structs of
+/// references contracts follow nothing.
+fn run_with_queue<'x, B: Course + Send + Sync, R: Threads + Wait + Sync, G: Gate + Sync>(
     host: &'x Host<'x, R, G>,
     context: &'x RunContext<'x>,
     means: &'x Means<'x>,
     book: &'x TicketBook,
-    shop: &'x Shop<B>,
+    queue: &'x WorkQueue<B>,
     pen: Pen,
     run: StoredRun,
 ) -> Result<Dispatched, RootSeat>
@@ -89,7 +89,7 @@ fn run_shop<'x, B: Course + Send + Sync, R: Threads + Wait + Sync, G: Gate + Syn
                 × (run.may_rest ≡ false → IfOk result (λ come. IsOver come))
                 × IfErr result (λ root. IsBare B.store root) }
         {
-            let hall = Hall {
+            let setup = ThreadSetup {
                 rt,
                 alloc,
                 gate,
@@ -106,9 +106,9 @@ fn run_shop<'x, B: Course + Send + Sync, R: Threads + Wait + Sync, G: Gate + Syn
                     store,
                 },
                 book,
-                shop,
+                queue,
             };
-            drive(scope, &hall, pen, run)
+            drive(scope, &setup, pen, run)
         },
     )
 }
@@ -116,48 +116,48 @@ fn run_shop<'x, B: Course + Send + Sync, R: Threads + Wait + Sync, G: Gate + Syn
 /// The same in a scope. Jobs run alone, or fly and retire, until the run is over or rests; workers
 /// are started for the jobs that are brought to them. In the end no job flies, also where memory
 /// was refused, and the workers are told that no more jobs come.
-#[tactic(auto, using(crate::proofs::Desking::begins_valid))]
+#[tactic(auto, using(crate::proofs::DispatcherMoves::begins_valid))]
 fn drive<'s, 'e: 's, B: Course + Send + Sync, R: Threads + Wait + Sync, G: Gate + Sync>(
     scope: &'s Scope<'s, &'e ()>,
-    hall: &Hall<'e, B, R, G>,
+    setup: &ThreadSetup<'e, B, R, G>,
     pen: Pen,
     run: StoredRun,
 ) -> Result<Dispatched, RootSeat>
     requires suits { Suits B.exchange B.code B.store B.book B.kept B.workers
-        hall.now.context hall.now.means hall.now.book.now }
+        setup.now.context setup.now.means setup.now.book.now }
     requires begin { MayBegin B.exchange B.store B.book B.first B.limit pen run }
     ensures come { IfOk result
         (λ come. IsRunTo B.exchange B.code B.kept B.workers B.first B.limit come) }
     ensures over { run.may_rest ≡ false → IfOk result (λ come. IsOver come) }
     ensures bare { IfErr result (λ root. IsBare B.store root) }
 {
-    let context = &hall.context;
-    let Ok(mut pairs) = PairTable::new(hall.alloc, context.checked) else {
+    let context = &setup.context;
+    let Ok(mut pairs) = PairTable::new(setup.alloc, context.checked) else {
         return Err(run.root);
     };
-    let helpers = helpers(hall.rt, context.workers);
+    let helpers = helpers(setup.rt, context.workers);
     let entries = context.checked.entries();
-    let Ok(mut pace) = Pace::new(hall.alloc, entries, helpers, context.workers) else {
+    let Ok(mut pace) = Pace::new(setup.alloc, entries, helpers, context.workers) else {
         return Err(run.root);
     };
     let may_rest = run.may_rest;
-    let mut desk = match Desk::<B>::open(hall, pen, run) {
-        Ok(desk) => desk,
+    let mut dispatcher = match DispatcherState::<B>::open(setup, pen, run) {
+        Ok(dispatcher) => dispatcher,
         Err(root) => return Err(root),
     };
-    let _closing = hall.shop.closing();
+    let _closing = setup.queue.closing();
     'jobs: loop {
-        if let Some(ending) = desk.ending() {
-            let end = desk.finish(hall, ending)?;
+        if let Some(ending) = dispatcher.ending() {
+            let end = dispatcher.finish(setup, ending)?;
             return Ok(Dispatched::Over(end));
         }
-        if may_rest && pace.rests() && desk.is_idle() {
-            let there = desk.rest(hall)?;
+        if may_rest && pace.rests() && dispatcher.is_idle() {
+            let there = dispatcher.rest(setup)?;
             return Ok(Dispatched::Rests(there));
         }
-        desk = match desk.make_move(scope, hall, &mut pairs, &mut pace) {
+        dispatcher = match dispatcher.make_move(scope, setup, &mut pairs, &mut pace) {
             Ok(next) => next,
-            Err(left) => return Err(drain(hall, left)),
+            Err(left) => return Err(drain(setup, left)),
         };
     }
 }

@@ -17,7 +17,7 @@ use std::alloc::Global;
 use std::collections::VecDeque;
 use std::marker::Model;
 use ticket_book::{Pen, TicketBook};
-use worker_pool::{Flight, Naming, Shop, launch};
+use worker_pool::{Flight, Naming, WorkQueue, launch};
 
 /// A job that flies, and how it started. Contracts see the loan that it is of. It cannot be
 /// dropped: its flight must be finished.
@@ -142,9 +142,9 @@ impl<B: Naming> Window<B> {
     }
 
     /// Whether the oldest that flies has come to its end, if one flies.
-    pub fn oldest_has_ended(&self, shop: &Shop<B>) -> bool {
+    pub fn oldest_has_ended(&self, queue: &WorkQueue<B>) -> bool {
         match self.flying.front() {
-            Some(oldest) => oldest.flight.has_ended(shop),
+            Some(oldest) => oldest.flight.has_ended(queue),
             None => false,
         }
     }

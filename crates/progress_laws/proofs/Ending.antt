@@ -1,36 +1,14 @@
--- Where the single run ends: it is over there, not before, and until then nothing is due between
--- two turns.
+-- Where the single run ends: it is over there, and not before.
 use Rattle.std.proofs.Common.{◌≡◌, ◌⊎◌, inl, inr, ⊎_elim, ℕ, zero, suc, ◌+◌, ◌<◌, ◌≤◌, Option, Some}
 use Rattle.std.proofs.Common.{None, refl, sym, ap, ◌∙◌, arith}
 use Rattle.std.proofs.lemmas.Bool.{cases_lt}
 use Rattle.std.proofs.lemmas.Option.{none-some}
-use Rattle.std.specs.Option.{option_map_or}
-use Rattle.job_types.specs.declared.job.JobStart.{JobStart}
 use Rattle.exchange_model.specs.declared.exchange.Exchange.{Exchange}
-use Rattle.source_meaning.specs.Arrivals.{arrivals}
-use Rattle.source_meaning.specs.Job.{job}
-use Rattle.source_meaning.specs.SingleRun.{Ending, after, begun, end_state, ended_as, ending_at}
-use Rattle.source_meaning.specs.SingleRun.{jobs_at_end, next_start}
+use Rattle.source_meaning.specs.SingleRun.{Ending, after, end_state, ending_at, jobs_at_end}
 use Rattle.source_meaning.specs.State.{State}
 use Rattle.exchange_run.proofs.Ending.{before_end, ends_at}
-use Rattle.exchange_run.proofs.Resting.{quiet_again}
 use Rattle.exchange_run.proofs.Turning.{at_most}
 use Rattle.progress_laws.proofs.Counting.{below_next}
-
--- what was due has arrived
-pub quiet_after : (x : Exchange) (first : State) (n : ℕ) → arrivals x (after x first n) ≡ after x first n
-unfolding after
-quiet_after x first zero = quiet_again x first
-quiet_after x first (suc n) = by (next_start (after x first n)) (quiet_after x first n)
-  where
-    s : State
-    s = after x first n
-
-    by : (o : Option JobStart) → arrivals x s ≡ s
-        → arrivals x (option_map_or (λ start. arrivals x (ended_as x start (job x start s.store) (begun s))) o s)
-        ≡ option_map_or (λ start. arrivals x (ended_as x start (job x start s.store) (begun s))) o s
-    by None quiet = quiet
-    by (Some start) quiet = quiet_again x (ended_as x start (job x start s.store) (begun s))
 
 module _ (x : Exchange) (first : State) (limit : ℕ) where
   -- it is not over before so many jobs

@@ -23,6 +23,7 @@ use Rattle.order_laws.specs.Keeps.{NoneDue}
 use Rattle.order_laws.proofs.Arriving.{arrivals_settle}
 use Rattle.order_laws.proofs.Starting.{goes_on}
 use Rattle.exchange_run.proofs.Ending.{ends_at}
+use Rattle.exchange_run.proofs.Resting.{quiet_after}
 use Rattle.exchange_run.proofs.Turning.{at_most, some_start}
 use Rattle.exchange_run.proofs.Turning as turning
 use Rattle.interleave_core.specs.declared.event.CoreEvent.TheVariants.{Issue, Step, Retire}
@@ -36,7 +37,7 @@ use Rattle.interleave_core.proofs.Joining.{PairsGive}
 use Rattle.progress_laws.specs.Counts.{JobsMake, events_of}
 use Rattle.progress_laws.specs.Going.{ComesToEnd, HasEvent, IsOver, IsSingleEnd, NoEvent}
 use Rattle.progress_laws.proofs.Counting.{all_go, no_fewer, one_total}
-use Rattle.progress_laws.proofs.Ending.{no_more, quiet_after}
+use Rattle.progress_laws.proofs.Ending.{no_more}
 use Rattle.progress_laws.proofs.Pacing.{Paced, made_none, paced_event, window_makes}
 
 -- where the run is over and the window is empty, no event is allowed

@@ -27,13 +27,12 @@ use Rattle.machine_meaning.specs.Faithful.{Faithful, started}
 use Rattle.machine_meaning.specs.Machine.{Machine, stepped}
 use Rattle.machine_meaning.specs.Private.{Private}
 use Rattle.checked.specs.Kept.{KeptSummaries}
-use Rattle.order_laws.specs.Books.{AreAhead}
 use Rattle.order_laws.specs.Books as books
 use Rattle.order_laws.specs.Keeps.{NoLineBefore}
 use Rattle.order_laws.specs.Picks.{all_begun}
 use Rattle.order_laws.specs.Windows.{IsWindow, done_by, jobs_of}
 use Rattle.order_laws.proofs.Arriving.{arrivals_keep}
-use Rattle.order_laws.proofs.Following.{ahead_none, ahead_retire}
+use Rattle.order_laws.proofs.Following.{ahead_retire}
 use Rattle.order_laws.proofs.Keeping.{retire_keeps}
 use Rattle.order_laws.proofs.Moving.{window_fits, window_next}
 use Rattle.order_laws.proofs.Starting.{goes_on}
@@ -48,8 +47,8 @@ use Rattle.interleave_core.specs.Cores.{Core, begun_jobs, issues, lets_go, settl
 use Rattle.interleave_core.specs.Follows.{own_run}
 use Rattle.interleave_core.specs.Runs.{Runs}
 use Rattle.interleave_core.specs.Runs as runs
-use Rattle.interleave_core.proofs.Following.{Beside, first_at, job_at, stands_at, starts_in}
-use Rattle.interleave_core.proofs.Following.{window_of}
+use Rattle.interleave_core.proofs.Following.{Beside, first_at, first_shares, job_at, stands_at}
+use Rattle.interleave_core.proofs.Following.{starts_in, window_of}
 use Rattle.interleave_core.proofs.Joining.{AllPass, MovesOn, PairsGive, Progress, Shares, all_fit}
 use Rattle.interleave_core.proofs.Joining.{all_map_same, all_move_on, beginning, issue, one_more}
 use Rattle.interleave_core.proofs.Joining.{retire, run_of, starts_of, step}
@@ -330,12 +329,7 @@ module _ (x : Exchange) (kept : IsExchange x) (code : Code) (faithful : Faithful
           jobs = [];
           turn_is = sym quiet ∙ ap (after x first) (sym zero_now);
           window = none;
-          shares = record {
-            valid = v;
-            ahead = subst (AreAhead x first []) (sym is) (ahead_none x first first.store);
-            passes = tt;
-            words = ap (λ (t : State). t.store) is;
-          };
+          shares = first_shares x kept code faithful facts pairs first c.state v is;
         };
         limited = limited;
         few = λ some. absurd (omega (arith, some, long));

@@ -6,8 +6,8 @@ ghost use Rattle.worker_pool.specs.Ways.{AreMeans};
 
 use crate::means::Means;
 use crate::naming::Naming;
-use crate::shop::Shop;
 use crate::task::{Ended, Task};
+use crate::work_queue::WorkQueue;
 use job_run::JobRun;
 use plex_io::Gate;
 use shared_store::JobSeat;
@@ -20,7 +20,7 @@ use ticket_book::{Pen, Ticket, TicketBook};
 enum Whereabouts<B: Naming> {
     /// It has not begun, and no other thread knows of it.
     InHand(Task<B>),
-    /// It was brought to the shop, under this number.
+    /// It was brought to the work queue, under this number.
     AtShop(u64),
     /// It has run to its end here.
     Over(Ended<B>),
@@ -85,22 +85,22 @@ impl<B: Naming> Flight<B> {
         }
     }
 
-    /// Whether the job has come to its end. Where it was brought to a shop, it is this one.
-    pub fn has_ended(&self, shop: &Shop<B>) -> bool {
+    /// Whether the job has come to its end. Where it was brought to a work queue, it is this one.
+    pub fn has_ended(&self, queue: &WorkQueue<B>) -> bool {
         match &self.at {
             Whereabouts::InHand(_) => false,
-            Whereabouts::AtShop(number) => shop.has_ended(*number),
+            Whereabouts::AtShop(number) => queue.has_ended(*number),
             Whereabouts::Over(_) => true,
         }
     }
 
-    /// The job is brought to the shop, if it is in hand.
-    pub fn bring<R: Wait>(self, rt: &R, shop: &Shop<B>) -> Flight<B>
+    /// The job is brought to the work queue, if it is in hand.
+    pub fn bring<R: Wait>(self, rt: &R, queue: &WorkQueue<B>) -> Flight<B>
         ensures { result ≡ self }
     {
         let Flight { ticket, at } = self;
         let at = match at {
-            Whereabouts::InHand(task) => Whereabouts::AtShop(shop.bring(rt, task)),
+            Whereabouts::InHand(task) => Whereabouts::AtShop(queue.bring(rt, task)),
             elsewhere => elsewhere,
         };
         Flight { ticket, at }
@@ -120,12 +120,12 @@ impl<B: Naming> Flight<B> {
     }
 
     /// The end of the job: it is run here where it is in hand, and waited for where it was brought
-    /// to a shop, which must be this one. The seat comes back with the touches of its loan's job,
-    /// and the run at its end.
+    /// to a work queue, which must be this one. The seat comes back with the touches of its loan's
+    /// job, and the run at its end.
     pub fn finish<R: Wait, G: Gate>(
         self,
         rt: &R,
-        shop: &Shop<B>,
+        queue: &WorkQueue<B>,
         means: &Means<'_>,
         book: &TicketBook,
         gate: &G,
@@ -137,7 +137,7 @@ impl<B: Naming> Flight<B> {
         let Flight { ticket, at } = self;
         let ended = match at {
             Whereabouts::InHand(task) => task.run(means, gate),
-            Whereabouts::AtShop(number) => shop.end_of(rt, number, means, gate),
+            Whereabouts::AtShop(number) => queue.end_of(rt, number, means, gate),
             Whereabouts::Over(ended) => ended,
         };
         if ended.number() == ticket.number() {

@@ -4,22 +4,22 @@
 // from a scope. What comes out: a `Flight` for the dispatcher, which contracts see as the loan that
 // it is of, and from `Flight::finish` the seat and the run of that very loan's job, ended as the
 // machine ends it alone on the loan's base values. A flight is in hand at first; it may be brought
-// to the shop, where threads take jobs in their order, or run where it is. The dispatcher stands on
-// the contracts of `launch` and `Flight` alone: which thread runs a job, when, and who is woken for
-// it has no clause. It knows neither how jobs are picked nor in which order they retire, and
-// nothing of what a job says.
+// to the work queue, where threads take jobs in their order, or run where it is. The dispatcher
+// stands on the contracts of `launch` and `Flight` alone: which thread runs a job, when, and who is
+// woken for it has no clause. It knows neither how jobs are picked nor in which order they retire,
+// and nothing of what a job says.
 #![tactic(auto)]
 
 mod flight;
 mod line;
 mod means;
 mod naming;
-mod shop;
 mod task;
+mod work_queue;
 mod workers;
 
 pub use flight::{Flight, launch};
 pub use means::Means;
 pub use naming::Naming;
-pub use shop::{Closing, Shop};
+pub use work_queue::{Closing, WorkQueue};
 pub use workers::start_workers;

@@ -4,25 +4,25 @@ ghost use Rattle.worker_pool.specs.Ways.{AreMeans};
 
 use crate::means::Means;
 use crate::naming::Naming;
-use crate::shop::{Shop, first_nap, longer_nap};
+use crate::work_queue::{WorkQueue, first_nap, longer_nap};
 use plex_io::Gate;
 use std::sync::Wait;
 use std::thread::{Scope, Threads};
 
 /// Starts workers in a scope until there are so many. They run the jobs that are brought to the
-/// shop, and end once it is closed. Where a thread cannot be made there are fewer, and none is
-/// tried again: a job that no worker has is run by who finishes its flight.
+/// work queue, and end once it is closed. Where a thread cannot be made there are fewer, and none
+/// is tried again: a job that no worker has is run by who finishes its flight.
 pub fn start_workers<'s, 'e: 's, B: Naming + Send + Sync, R: Threads + Wait + Sync, G: Gate + Sync>(
     rt: &'e R,
     scope: &'s Scope<'s, &'e ()>,
-    shop: &'e Shop<B>,
+    queue: &'e WorkQueue<B>,
     means: &Means<'e>,
     gate: &'e G,
     wanted: u64,
 )
     requires means { AreMeans B.exchange B.code B.store means.now }
 {
-    let started = shop.started();
+    let started = queue.started();
     if wanted <= started {
         return;
     }
@@ -37,7 +37,7 @@ pub fn start_workers<'s, 'e: 's, B: Naming + Send + Sync, R: Threads + Wait + Sy
         {
             work(
                 rt,
-                shop,
+                queue,
                 &Means {
                     exchange,
                     code,
@@ -46,29 +46,29 @@ pub fn start_workers<'s, 'e: 's, B: Naming + Send + Sync, R: Threads + Wait + Sy
                 gate,
             )
         };
-        shop.looks_more();
+        queue.looks_more();
         if scope.spawn(worker).is_err() {
-            shop.looks_less();
-            shop.starts_no_more();
+            queue.looks_less();
+            queue.starts_no_more();
             return;
         }
     }
-    shop.has_started(wanted);
+    queue.has_started(wanted);
 }
 
-/// A worker: it runs jobs until the shop is closed.
-fn work<R: Wait, B: Naming, G: Gate>(rt: &R, shop: &Shop<B>, means: &Means<'_>, gate: &G)
+/// A worker: it runs jobs until the work queue is closed.
+fn work<R: Wait, B: Naming, G: Gate>(rt: &R, queue: &WorkQueue<B>, means: &Means<'_>, gate: &G)
     requires means { AreMeans B.exchange B.code B.store means.now }
 {
     let mut nap = first_nap();
     for _ in rt.forever() {
-        if shop.is_closed() {
-            shop.looks_less();
+        if queue.is_closed() {
+            queue.looks_less();
             return;
         }
-        let served = shop.serve(rt, means, gate);
+        let served = queue.serve(rt, means, gate);
         nap = if served { first_nap() } else { nap };
-        shop.nap(rt, nap);
+        queue.nap(rt, nap);
         nap = longer_nap(nap);
     }
 }

@@ -17,7 +17,7 @@ begin-requires g c =
     c.in-Some.ensures.start in
     entry_within g.B.Naming.exchange g.B.Course.kept set.exchange set.checked set.true_of c.args.books.now
     c.args.root.now c.args.window.now c.deref-start.result.now may c.requires.beside.flying
-    g.B.Naming.code c.args.hall.now.means.code.now set.faithful.entries c.requires.suits.means.1
+    g.B.Naming.code c.args.setup.now.means.code.now set.faithful.entries c.requires.suits.means.1
 
 pub number_of_next-job-requires : goal.number_of_next-job-requires
 number_of_next-job-requires g c =
@@ -49,7 +49,7 @@ launch-flight-requires-clause-ready g c =
     ready g.B.Naming.exchange g.B.Course.kept set.exchange set.checked set.true_of c.args.books.now c.args.root.now
     c.args.window.now c.deref-start.result.now may c.requires.beside.flying
     told.0 told.1 (bare (trace_of g.B.Naming.exchange c.deref-start.result.now c.args.root.now.1.values)) refl
-    g.B.Naming.code c.args.hall.now.means.code.now g.B.Naming.store c.lend_as-seat.result c.begin.new.self
+    g.B.Naming.code c.args.setup.now.means.code.now g.B.Naming.store c.lend_as-seat.result c.begin.new.self
     c.requires.suits.means.1 c.requires.beside.home c.lend_as-seat.ensures.seat c.begin.ensures
 
 pub push-requires-clause-start : goal.push-requires-clause-start

@@ -27,7 +27,7 @@ retire_on_root-retired-requires-clause-words g c =
     c.in-Some.oldest.flight c.pop.new.self.loans (ap (λ (v : View). v.loans) c.in-Some.ensures.0) g.B.Naming.code
     g.B.Naming.store c.finish-seat.result.0 c.finish-seat.result.1.value c.finish-seat.ensures
     c.deref-start.result.now (c.deref-start.ensures ∙ c.in-Some.ensures.1) c.done-done.result.now leaves
-    c.args.hall.now.context.exchange.now c.requires.suits.exchange
+    c.args.setup.now.context.exchange.now c.requires.suits.exchange
     c.take_back.new.root.1 (ap (λ (r : RootView). r.1) c.take_back.ensures)
     c.requires.beside.flying.0 c.requires.beside.flying.1
 
@@ -44,7 +44,7 @@ returns-in-Ok-clause-turned g c =
     c.in-Some.oldest.flight c.pop.new.self.loans (ap (λ (v : View). v.loans) c.in-Some.ensures.0) g.B.Naming.code
     g.B.Naming.store c.finish-seat.result.0 c.finish-seat.result.1.value c.finish-seat.ensures
     c.deref-start.result.now (c.deref-start.ensures ∙ c.in-Some.ensures.1) c.done-done.result.now leaves
-    c.args.hall.now.context.exchange.now c.requires.suits.exchange
+    c.args.setup.now.context.exchange.now c.requires.suits.exchange
     c.take_back.new.root.1 (ap (λ (r : RootView). r.1) c.take_back.ensures)
     there.settled c.retire_on_root-retired.new.books c.in-Ok.root.1.values _ _ there.retired there.next_is
     c.requires.beside.flying (record { root = c.in-Ok.root; steps = c.steps-steps.result }) c.keep_run.new.self

@@ -13,7 +13,7 @@ turn_alone-turn-requires-clause-home g c = c.requires.beside.home ∙ sym c.requ
 
 pub turn_alone-turn-requires-clause-may : goal.turn_alone-turn-requires-clause-may
 turn_alone-turn-requires-clause-may g c =
-    may_turn g.B.Naming.exchange c.args.hall.now.context.exchange.now g.B.Course.kept c.args.books.now c.args.root.1 c.args.window.now
+    may_turn g.B.Naming.exchange c.args.setup.now.context.exchange.now g.B.Course.kept c.args.books.now c.args.root.1 c.args.window.now
     c.requires.suits.exchange c.requires.next c.requires.goes_on c.requires.beside.counted.limited c.requires.beside.flying
 
 pub returns-in-Ok-turn-clause-turned : goal.returns-in-Ok-turn-clause-turned

@@ -6,4 +6,4 @@ abbrev pub invariant-jobs : goal.invariant-jobs
 invariant-jobs g l = l.pairs ≡ g.B.Course.kept
 
 abbrev pub decreases-jobs : goal.decreases-jobs
-decreases-jobs g l = to_do l.desk.books
+decreases-jobs g l = to_do l.dispatcher.books

@@ -1,4 +1,4 @@
--- What contracts see of the dispatcher's desk, and what its type keeps.
+-- What contracts see of the dispatcher's state, and what its type keeps.
 use Rattle.std.specs.Prelude.{◌≡◌, ℕ, ◌<◌, [], Option, Some, None, MatchOption}
 use Rattle.std.specs.FinMap as map
 use Rattle.job_types.specs.Forlopps.{none_dead}
@@ -18,16 +18,17 @@ use Rattle.parallel_dispatch.specs.Windows.{View}
 
 -- the books, the root of the store, the jobs that fly, and how many instructions the runs of those
 -- that retired made
-pub record DeskView : Type 0 where
+pub record DispatcherView : Type 0 where
   pub books : Account
   pub root : RootView
   pub window : View
   pub steps : ℕ
 
--- what the type of the desk keeps: from the first state events lead, each as it is allowed, to the
--- state of the core that books, root and loans are, in which each loaned job stands at its start
-pub record IsDesk (x : Exchange) (k : KeptSummaries) (code : Code) (store : StoreId) (workers : ℕ)
-    (first : State) (limit : ℕ) (books : Account) (root : RootView) (window : View)
+-- what the type of the dispatcher's state keeps: from the first state events lead, each as it is
+-- allowed, to the state of the core that books, root and loans are, in which each loaned job stands
+-- at its start
+pub record IsDispatcherState (x : Exchange) (k : KeptSummaries) (code : Code) (store : StoreId)
+    (workers : ℕ) (first : State) (limit : ℕ) (books : Account) (root : RootView) (window : View)
     (steps : ℕ) : Type 0 where
   pub reached : IsReached x k code workers first limit books root.1 window.loans steps
   pub home : root.0 ≡ store

@@ -52,7 +52,7 @@ const LONGEST_NAP: u64 = 2_000_000;
 /// workers. Jobs are taken in the order in which they were brought. Contracts see how many jobs it
 /// has room for.
 #[derive(Drop)]
-pub struct Shop<B: Naming> {
+pub struct WorkQueue<B: Naming> {
     /// How many jobs were brought. The dispatcher alone changes it.
     brought: Line,
     /// How many were taken.
@@ -84,7 +84,7 @@ pub struct Shop<B: Naming> {
 /// Stands for more workers than will ever be wanted.
 const NO_MORE: u64 = u64::MAX;
 
-impl<B: Naming> Model for Shop<B> {
+impl<B: Naming> Model for WorkQueue<B> {
     ghost use Rattle.std.specs.Prelude.{ℕ, ◌<◌, vec_len};
 
     ghost Value = { ℕ };
@@ -94,17 +94,17 @@ impl<B: Naming> Model for Shop<B> {
     ghost invariant = { λ s. 0 < vec_len s.places };
 }
 
-impl<B: Naming> Shop<B> {
-    /// A shop with room for so many jobs, and as yet no worker. Memory is the only reason for an
-    /// error.
-    pub fn new(alloc: Global, room: u32) -> Result<Shop<B>, Memory>
+impl<B: Naming> WorkQueue<B> {
+    /// A work queue with room for so many jobs, and as yet no worker. Memory is the only reason for
+    /// an error.
+    pub fn new(alloc: Global, room: u32) -> Result<WorkQueue<B>, Memory>
         requires { 0 < room }
-        ensures { IfOk result (λ shop. shop ≡ room) }
+        ensures { IfOk result (λ queue. queue ≡ room) }
     {
         let Ok(places) = free_places(alloc, room) else {
             return Err(Memory);
         };
-        Ok(Shop {
+        Ok(WorkQueue {
             brought: Line::new(),
             taken: Line::new(),
             searching: Line::new(),
@@ -121,8 +121,8 @@ impl<B: Naming> Shop<B> {
     }
 
     /// Brings a job, and wakes a worker for it where that is worth it. Its number here. No more
-    /// jobs may be there at once than the shop has room for: else one takes the place of another,
-    /// whose flight then never ends.
+    /// jobs may be there at once than the work queue has room for: else one takes the place of
+    /// another, whose flight then never ends.
     pub fn bring<R: Wait>(&self, rt: &R, task: Task<B>) -> u64 {
         let number = self.brought.get();
         *self.place(number).slot.lock(rt) = Slot::Waits(task);
@@ -174,10 +174,10 @@ impl<B: Naming> Shop<B> {
         }
     }
 
-    /// What closes the shop when it goes: no more jobs come then, and the workers end. It must go
-    /// before the end of the workers' scope, which else waits for ever.
+    /// What closes the work queue when it goes: no more jobs come then, and the workers end. It
+    /// must go before the end of the workers' scope, which else waits for ever.
     pub fn closing(&self) -> Closing<'_, B> {
-        Closing { shop: self }
+        Closing { queue: self }
     }
 
     fn close(&self) {
@@ -375,15 +375,15 @@ impl<B: Naming> Shop<B> {
     }
 }
 
-/// Closes a shop when it goes, on whichever way out that is.
+/// Closes a work queue when it goes, on whichever way out that is.
 pub struct Closing<'e, B: Naming> {
-    shop: &'e Shop<B>,
+    queue: &'e WorkQueue<B>,
 }
 
 impl<B: Naming> Drop for Closing<'_, B> {
     fn drop(self) {
-        let Closing { shop } = self;
-        shop.close();
+        let Closing { queue } = self;
+        queue.close();
     }
 }
 

@@ -1,19 +1,19 @@
-// The dispatcher's desk: its books, the root of the store and the jobs that fly, which are a state
+// The dispatcher's state: its books, the root of the store and the jobs that fly, which are a state
 // of the core of events.
 ghost use Rattle.std.specs.Prelude.{◌≡◌, ◌<◌, [], length, Some, IsTrue, IfOk, IfErr};
 ghost use Rattle.shared_store.specs.Loans.{unlent};
 ghost use Rattle.run_books.specs.Events.{ending_of};
 ghost use Rattle.source_meaning.specs.SingleRun.{ending_at};
 ghost use Rattle.source_meaning.specs.Valid.{IsValid};
-ghost use Rattle.parallel_dispatch.specs.Desks.{GoesOn, TellsEnd};
-ghost use Rattle.parallel_dispatch.specs.Ends.{IsRunEnd, IsRunRest};
+ghost use Rattle.parallel_dispatch.specs.DispatcherStates.{GoesOn, TellsEnd};
+ghost use Rattle.parallel_dispatch.specs.Ends.{IsEndWhereOver, IsRunEnd, IsRunRest};
 ghost use Rattle.parallel_dispatch.specs.Moves.{IsBare, IsLeft, MayBegin, Suits, to_do};
 
 use crate::course::Course;
 use crate::dispatcher::{Ended, Rested, StoredRun};
 use crate::driving::{hire_meanwhile, relieve, way_for};
-use crate::hall::Hall;
 use crate::moves::{Left, Move, issue, next_move, retire, run_alone};
+use crate::thread_setup::ThreadSetup;
 use crate::window::Window;
 use exchange_run::Standing;
 use interference_check::PairTable;
@@ -31,19 +31,19 @@ use ticket_book::Pen;
 /// The books, the root of the store, and the jobs that fly. They are a state of the core of events,
 /// in which each job that flies stands at its start, and events lead to it from the state in which
 /// the run began. It cannot be dropped, since no job that flies may be.
-pub(crate) struct Desk<B: Course> {
+pub(crate) struct DispatcherState<B: Course> {
     books: Box<Books>,
     root: RootSeat,
     window: Window<B>,
     steps: u64,
 }
 
-impl<B: Course> Model for Desk<B> {
-    ghost use Rattle.parallel_dispatch.specs.Desks.{DeskView, IsDesk};
+impl<B: Course> Model for DispatcherState<B> {
+    ghost use Rattle.parallel_dispatch.specs.DispatcherStates.{DispatcherView, IsDispatcherState};
     ghost use Rattle.std.specs.Coded.{codes};
     ghost use Rattle.forlopp_chain.specs.Codes.{chains_code, dead_code};
 
-    ghost Value = { DeskView };
+    ghost Value = { DispatcherView };
 
     ghost coded = { Prim.hlevel (codes, chains_code, dead_code) };
 
@@ -54,19 +54,19 @@ impl<B: Course> Model for Desk<B> {
       steps = d.steps;
     } };
 
-    ghost invariant = { λ d. IsDesk B.exchange B.kept B.code B.store B.workers B.first B.limit
-        d.books.value d.root d.window d.steps };
+    ghost invariant = { λ d. IsDispatcherState B.exchange B.kept B.code B.store B.workers B.first
+        B.limit d.books.value d.root d.window d.steps };
 }
 
-impl<B: Course + Send + Sync> Desk<B> {
+impl<B: Course + Send + Sync> DispatcherState<B> {
     /// Before the first job: what is due arrives. The root is given back where memory is refused.
     pub fn open<R, G>(
-        hall: &Hall<'_, B, R, G>,
+        setup: &ThreadSetup<'_, B, R, G>,
         pen: Pen,
         run: StoredRun,
-    ) -> Result<Desk<B>, RootSeat>
+    ) -> Result<DispatcherState<B>, RootSeat>
         requires suits { Suits B.exchange B.code B.store B.book B.kept B.workers
-            hall.now.context hall.now.means hall.now.book.now }
+            setup.now.context setup.now.means setup.now.book.now }
         requires begin { MayBegin B.exchange B.store B.book B.first B.limit pen run }
         ensures bare { IfErr result (λ root. IsBare B.store root) }
     {
@@ -75,16 +75,16 @@ impl<B: Course + Send + Sync> Desk<B> {
             root,
             may_rest: _,
         } = run;
-        let Ok(()) = let_arrive(hall.context.exchange, &mut books) else {
+        let Ok(()) = let_arrive(setup.context.exchange, &mut books) else {
             return Err(root);
         };
-        let Ok(books) = Box::new(hall.alloc, books) else {
+        let Ok(books) = Box::new(setup.alloc, books) else {
             return Err(root);
         };
-        let Ok(window) = Window::<B>::new(hall.alloc, pen, hall.context.workers) else {
+        let Ok(window) = Window::<B>::new(setup.alloc, pen, setup.context.workers) else {
             return Err(root);
         };
-        Ok(Desk {
+        Ok(DispatcherState {
             books,
             root,
             window,
@@ -115,30 +115,30 @@ impl<B: Course + Send + Sync> Desk<B> {
     pub fn make_move<'s, 'e: 's, R: Threads + Wait + Sync, G: Gate + Sync>(
         self,
         scope: &'s Scope<'s, &'e ()>,
-        hall: &Hall<'e, B, R, G>,
+        setup: &ThreadSetup<'e, B, R, G>,
         pairs: &mut PairTable<'_>,
         pace: &mut Pace,
-    ) -> Result<Desk<B>, Left<B>>
+    ) -> Result<DispatcherState<B>, Left<B>>
         requires suits { Suits B.exchange B.code B.store B.book B.kept B.workers
-            hall.now.context hall.now.means hall.now.book.now }
+            setup.now.context setup.now.means setup.now.book.now }
         requires pairs { pairs.old ≡ B.kept }
         requires goes_on { GoesOn self.books self.window }
         ensures kept { pairs.new ≡ B.kept }
-        ensures fewer { IfOk result (λ desk. to_do desk.books < to_do self.books) }
+        ensures fewer { IfOk result (λ dispatcher. to_do dispatcher.books < to_do self.books) }
         ensures left { IfErr result (λ left. IsLeft B.store left.root left.window.loans) }
     {
-        let Desk {
+        let DispatcherState {
             mut books,
             mut root,
             mut window,
             steps,
         } = self;
-        relieve(hall, pace, &window);
+        relieve(setup, pace, &window);
         let held: &mut Books = &mut books;
-        match next_move(held, &window, pairs, hall.shop, pace) {
+        match next_move(held, &window, pairs, setup.queue, pace) {
             Move::RunAlone => {
-                match run_alone(hall, pace, held, root, &mut window) {
-                    Ok(alone) => Ok(Desk {
+                match run_alone(setup, pace, held, root, &mut window) {
+                    Ok(alone) => Ok(DispatcherState {
                         books,
                         root: alone.root,
                         window,
@@ -148,9 +148,9 @@ impl<B: Course + Send + Sync> Desk<B> {
                 }
             }
             Move::Issue { entry } => {
-                let way = way_for(scope, hall, entry, pairs, pace, &window);
-                match issue(hall, way, held, &mut root, &mut window) {
-                    Ok(()) => Ok(Desk {
+                let way = way_for(scope, setup, entry, pairs, pace, &window);
+                match issue(setup, way, held, &mut root, &mut window) {
+                    Ok(()) => Ok(DispatcherState {
                         books,
                         root,
                         window,
@@ -160,9 +160,9 @@ impl<B: Course + Send + Sync> Desk<B> {
                 }
             }
             Move::Retire => {
-                hire_meanwhile(scope, hall, pace, &window);
-                match retire(hall, pace, held, root, &mut window) {
-                    Ok(oldest) => Ok(Desk {
+                hire_meanwhile(scope, setup, pace, &window);
+                match retire(setup, pace, held, root, &mut window) {
+                    Ok(oldest) => Ok(DispatcherState {
                         books,
                         root: oldest.root,
                         window,
@@ -176,9 +176,13 @@ impl<B: Course + Send + Sync> Desk<B> {
 
     /// The end of a run that is over, where none flies. The root is given back where memory is
     /// refused.
-    pub fn finish<R, G>(self, hall: &Hall<'_, B, R, G>, ending: Ending) -> Result<Ended, RootSeat>
+    pub fn finish<R, G>(
+        self,
+        setup: &ThreadSetup<'_, B, R, G>,
+        ending: Ending,
+    ) -> Result<Ended, RootSeat>
         requires suits { Suits B.exchange B.code B.store B.book B.kept B.workers
-            hall.now.context hall.now.means hall.now.book.now }
+            setup.now.context setup.now.means setup.now.book.now }
         requires valid { IsValid B.exchange B.first }
         requires none { self.window.loans ≡ [] }
         requires over { Some (ending_of ending) ≡ ending_at self.books.limit self.books.state }
@@ -186,44 +190,41 @@ impl<B: Course + Send + Sync> Desk<B> {
             (λ end. IsRunEnd B.exchange B.code B.kept B.workers B.first B.limit end) }
         ensures bare { IfErr result (λ root. IsBare B.store root) }
     {
-        let Desk {
-            books,
-            mut root,
-            window,
-            steps,
-        } = self;
-        window.close();
-        let cells = hall.context.layout.words();
-        match words_of(hall.alloc, hall.means.store, &mut root, cells) {
-            Ok(words) => Ok(Ended {
-                books: Box::into_inner(books),
-                words,
-                ending,
-                steps,
-            }),
-            Err(_) => Err(root),
+        match self.rest(setup) {
+            Ok(Rested { there, steps }) => {
+                let Standing { books, words } = there;
+                Ok(Ended {
+                    books,
+                    words,
+                    ending,
+                    steps,
+                })
+            }
+            Err(root) => Err(root),
         }
     }
 
     /// Where a run rests, in which none flies. The root is given back where memory is refused.
-    pub fn rest<R, G>(self, hall: &Hall<'_, B, R, G>) -> Result<Rested, RootSeat>
+    pub fn rest<R, G>(self, setup: &ThreadSetup<'_, B, R, G>) -> Result<Rested, RootSeat>
         requires suits { Suits B.exchange B.code B.store B.book B.kept B.workers
-            hall.now.context hall.now.means hall.now.book.now }
+            setup.now.context setup.now.means setup.now.book.now }
         requires valid { IsValid B.exchange B.first }
         requires none { self.window.loans ≡ [] }
         ensures rest { IfOk result
             (λ run. IsRunRest B.exchange B.code B.kept B.workers B.first B.limit run) }
+        ensures ends { IfOk result
+            (λ run. IsEndWhereOver B.exchange B.code B.first B.limit self.books run) }
         ensures bare { IfErr result (λ root. IsBare B.store root) }
     {
-        let Desk {
+        let DispatcherState {
             books,
             mut root,
             window,
             steps,
         } = self;
         window.close();
-        let cells = hall.context.layout.words();
-        match words_of(hall.alloc, hall.means.store, &mut root, cells) {
+        let cells = setup.context.layout.words();
+        match words_of(setup.alloc, setup.means.store, &mut root, cells) {
             Ok(words) => {
                 let books = Box::into_inner(books);
                 Ok(Rested {
