@@ -25,7 +25,8 @@ use Rattle.pair_laws.proofs.Naming.{access_fits, plain_at}
 use Rattle.additions_meaning.specs.Additions.{AddsTo, adds, OnlyAddsTo, OnlyAddsToEach}
 use Rattle.additions_meaning.specs.Additions.{OnlyAddsToField, Targets}
 use Rattle.additions_meaning.specs.Lists.{AreAdded, AreOfBoth, HaveTheSame, IsAdded, IsAddedField}
-use Rattle.addition_laws.specs.Sparing.{IsSparing, PassesAdding}
+use Rattle.addition_laws.specs.Sparing.{PassesAdding}
+use Rattle.additions_meaning.specs.Sparing.{IsSparing}
 use Rattle.addition_laws.proofs.Sparing.{stands}
 
 -- two that say the same of a third

@@ -32,7 +32,8 @@ use Rattle.pair_laws.proofs.Keeping.{lets_stay_so, may_fault}
 use Rattle.pair_laws.proofs.Naming.{access_fits}
 use Rattle.additions_meaning.specs.Additions.{IsAddedWord, OnlyAddsToEach, Targets}
 use Rattle.addition_laws.specs.Either.{SameInEitherOrder, ShareOnly}
-use Rattle.addition_laws.specs.Sparing.{IsSpared, IsSparing, PassesAdding}
+use Rattle.addition_laws.specs.Sparing.{PassesAdding}
+use Rattle.additions_meaning.specs.Sparing.{IsSpared, IsSparing}
 use Rattle.addition_laws.specs.Together.{MayAddAtOnce}
 use Rattle.addition_laws.proofs.Permitting.{permitted_order}
 use Rattle.addition_laws.proofs.Sparing.{share_only}

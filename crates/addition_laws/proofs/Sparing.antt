@@ -14,7 +14,7 @@ use Rattle.start_permit.specs.Granted.{Lets, MayHold, MayRead, MayWrite, OneOf}
 use Rattle.pair_laws.specs.Together.{HaveOwnWords}
 use Rattle.additions_meaning.specs.Additions.{IsAddedWord, Targets}
 use Rattle.addition_laws.specs.Either.{ShareOnly}
-use Rattle.addition_laws.specs.Sparing.{IsSpared, IsSparing}
+use Rattle.additions_meaning.specs.Sparing.{IsSpared, IsSparing}
 use Rattle.addition_laws.proofs.Cells.{is_listed}
 
 module _ (x : Exchange) (d : Targets) (m n : Summary) (sparing : IsSparing d m n) where

@@ -13,7 +13,7 @@ ghost use Rattle.entry_summary.specs.declared.summary.Summary.{Summary};
 ghost use Rattle.flow_points.specs.declared.fact.Fact.{Fact};
 ghost use Rattle.flow_points.specs.Facts.{IsClosed, IsLeast};
 ghost use Rattle.order_laws.specs.Windows.{MakesWay};
-ghost use Rattle.addition_laws.specs.Sparing.{IsSparing, PassesAdding};
+ghost use Rattle.addition_laws.specs.Sparing.{PassesAdding};
 ghost use Rattle.addition_laws.specs.Together.{MayAddAtOnce, RunTogetherAdding};
 ghost use Rattle.pair_tests.specs.Pairs.{Passes};
 ghost use Rattle.pair_laws.specs.Together.{HaveOwnWords};
@@ -21,6 +21,7 @@ ghost use Rattle.addition_laws.specs.Either.{AreApartBut, SameInEitherOrder, Sha
 ghost use Rattle.additions_meaning.specs.Additions.{IsAddedWord, OnlyAddsToEach, Targets};
 ghost use Rattle.additions_meaning.specs.Lists.{AreAdded, AreOfBoth, HaveTheSame};
 ghost use Rattle.additions_meaning.specs.Amounts.{DiffersBy, RunsAlike};
+ghost use Rattle.additions_meaning.specs.Sparing.{IsSparing};
 
 /// A job over stored words that fit the exchange, and the same job over others: at listed
 /// variables, and at listed fields in whatever record, to which the jobs of its entry only add by

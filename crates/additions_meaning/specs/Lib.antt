@@ -1,3 +1,4 @@
 pub mod Additions
 pub mod Amounts
 pub mod Lists
+pub mod Sparing

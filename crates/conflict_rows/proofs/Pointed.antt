@@ -1,23 +1,21 @@
 -- One row of a point more, or none.
-use Rattle.std.proofs.Common.{◌≡◌, ◌↔◌, ⊎_elim, ℕ, ◌+◌, Bool, true, false, nat_eq, ◌||◌, List, []}
-use Rattle.std.proofs.Common.{◌∷◌, ◌++◌, Option, Some, None, refl, sym, ap, ◌∙◌, subst, rules}
-use Rattle.std.proofs.Common.{IsPermutation, IsSorted}
+use Rattle.std.proofs.Common.{◌≡◌, ◌↔◌, ℕ, ◌+◌, Bool, true, false, List, [], ◌∷◌, ◌++◌, Option}
+use Rattle.std.proofs.Common.{Some, None, refl, sym, ap, ◌∙◌, subst, rules, IsPermutation, IsSorted}
 use Rattle.std.specs.Prelude.{slice_get}
 use Rattle.std.specs.List.{Contains, dedup}
 use Rattle.std.specs.List.Sorted.{IsStrictlySortedBy}
 use Rattle.std.specs.Ordering.{is_eq}
 use Rattle.std.specs.declared.cmp.Ordering.TheVariants.{Equal}
-use Rattle.std.proofs.lemmas.Bool.{eq-eqb, eqb-true}
 use Rattle.std.proofs.lemmas.List.Kept.{IsStrictlySortedBy-dedup}
 use Rattle.plex_num.specs.declared.level.Level.{Level}
 use Rattle.plex_num.specs.declared.level.Level.TheVariants.{A, B, C, D}
-use Rattle.plex_num.proofs.Members.{first_is, first_or_later, later_is, none_in}
 use Rattle.entry_summary.specs.declared.summary.Access.{Access}
 use Rattle.entry_summary.specs.Orders.{access_order, level_number}
 use Rattle.entry_summary.proofs.Sorting.{same_items}
 use Rattle.entry_accesses.specs.Adding.{Adds}
 use Rattle.entry_accesses.specs.Levels.{is_sent}
 use Rattle.entry_accesses.proofs.Adding.{push_adds}
+use Rattle.entry_accesses.proofs.Leveling.{found_is, is_found}
 use Rattle.conflicts_meaning.specs.declared.rows.GivenAt.{GivenAt}
 use Rattle.conflicts_meaning.specs.contracts.rows.GivenAtPartialEq.TheImpl as equal
 use Rattle.conflicts_meaning.specs.contracts.rows.GivenAtEq.TheImpl.Laws as equal_laws
@@ -59,28 +57,6 @@ same_level B B e = refl
 same_level C C e = refl
 same_level D D e = refl
 same_level _ _ e = cc
-
-found_is : (sent : List Level) (l : Level) → is_sent sent l ≡ true → Contains sent l
-found_is [] l is = cc
-found_is (m ∷ sent) l is = by (nat_eq (level_number m) (level_number l)) refl is (found_is sent l)
-  where
-    by : (t : Bool) → nat_eq (level_number m) (level_number l) ≡ t → (t || is_sent sent l) ≡ true
-        → (is_sent sent l ≡ true → Contains sent l) → Contains (m ∷ sent) l
-    by true here h rest = subst (Contains (m ∷ sent)) (same_level m l (eqb-true (level_number m) (level_number l) here)) (first_is m sent)
-    by false here h rest = later_is m l sent (rest h)
-
-is_found : (sent : List Level) (l : Level) → Contains sent l → is_sent sent l ≡ true
-is_found [] l c = absurd (none_in l c)
-is_found (m ∷ sent) l c = by (nat_eq (level_number m) (level_number l)) refl (is_found sent l)
-  where
-    by : (t : Bool) → nat_eq (level_number m) (level_number l) ≡ t → (Contains sent l → is_sent sent l ≡ true) → (t || is_sent sent l) ≡ true
-    by true here rest = refl
-    by false here rest =
-        ⊎_elim
-        (λ same. absurd (let clash : false ≡ true = sym here ∙ ap (λ k. nat_eq (level_number k) (level_number l)) same
-        ∙ eq-eqb (level_number l) (level_number l) refl in cc))
-        rest
-        (first_or_later m l sent c)
 
 pub level_missing : (sent : List Level) (level : Level) (point : ℕ) (b : Bool) (old : List GivenAt) → b ≡ is_sent sent level → b ≡ false
     → (number count place : ℕ) → number ≡ count + place → Adds old old (LevelAt count sent point place level)

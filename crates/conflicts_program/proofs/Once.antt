@@ -1,10 +1,12 @@
 -- An answer comes to all words and files, and no more than one.
-use Rattle.std.proofs.Common.{◌≡◌, List, Option, Some, None, Ok, Err, refl, sym, ap, ◌∙◌}
+use Rattle.std.proofs.Common.{◌≡◌, List, ◌++◌, Option, Some, None, Ok, Err, refl, sym, ap, ◌∙◌}
 use Rattle.plex_io.specs.Files.{Files}
 use Rattle.exchange_model.specs.declared.exchange.Exchange.{Exchange}
 use Rattle.conflicts_meaning.specs.declared.rows.EntryPair.{EntryPair}
 use Rattle.conflict_laws.proofs.Coming.{text_comes}
 use Rattle.conflict_laws.proofs.Once.{text_once}
+use Rattle.additions_text.proofs.Coming as adding
+use Rattle.additions_text.proofs.Once as added
 use Rattle.command_words.specs.Words.{Word}
 use Rattle.command_words.specs.declared.status.Status.TheVariants as status
 use Rattle.answer_meaning.specs.Outcome.{ComesOf, IsAnAnswer, Out}
@@ -20,13 +22,20 @@ abbrev Tells : Option EntryPair → Out Exchange → Out Answer → Type 0
 Tells p s o = ComesOf s (λ x. IsAnAnswer (AnswersConflicts p x)) o
 
 tells : (p : Option EntryPair) (s : Out Exchange) → (o : Out Answer) × Tells p s o
-tells p (Ok x) = (let t = text_comes x p in (Ok (record { status = status.Done; text = t.0 }), record { status = refl; told = t.1 }))
+tells p (Ok x) =
+    let t = text_comes x p in
+    let a = adding.text_comes x p in (
+      Ok (record { status = status.Done; text = t.0 ++ a.0 }),
+      record { status = refl; told = record { conflicts = t.0; additions = a.0; are_conflicts = t.1; are_additions = a.1; is = refl } },
+    )
 tells p (Err r) = (Err r, refl)
 
 conflicts_once : (p : Option EntryPair) (x : Exchange) (a b : Answer) → AnswersConflicts p x a → AnswersConflicts p x b → a ≡ b
 conflicts_once p x a b one other =
     let status : a.status ≡ b.status = one.status ∙ sym other.status in
-    let text : a.text ≡ b.text = text_once x p a.text b.text one.told other.told in
+    let conflicts = text_once x p one.told.conflicts other.told.conflicts one.told.are_conflicts other.told.are_conflicts in
+    let additions = added.text_once x p one.told.additions other.told.additions one.told.are_additions other.told.are_additions in
+    let text : a.text ≡ b.text = one.told.is ∙ (λ i. conflicts i ++ additions i) ∙ sym other.told.is in
     λ i. record { status = status i; text = text i }
 
 told_once : (p : Option EntryPair) (s : Out Exchange) (o q : Out Answer) → Tells p s o → Tells p s q → o ≡ q

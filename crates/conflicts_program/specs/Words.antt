@@ -7,6 +7,7 @@ use Rattle.plex_num.specs.Number.{number_of}
 use Rattle.exchange_model.specs.declared.exchange.Exchange.{Exchange}
 use Rattle.conflicts_meaning.specs.declared.rows.EntryPair.{EntryPair}
 use Rattle.conflicts_meaning.specs.Told.{AreConflicts, pair}
+use Rattle.additions_text.specs.Additions.{AreAdditions}
 use Rattle.command_words.specs.Words.{Word}
 use Rattle.answer_meaning.specs.Outcome.{Out}
 use Rattle.answer_meaning.specs.ExchangeAnswer.{FromExchange}
@@ -22,10 +23,17 @@ usage_text = codes "usage: plex-conflicts E [i j]" ++ LF
 abbrev pub usage_answer : Answer
 usage_answer = record { status = status.Usage; text = usage_text }
 
--- the conflicts of an exchange
+-- the conflicts of an exchange, and behind them its additions
+pub record TellsAll (x : Exchange) (asked : Option EntryPair) (text : List ℕ) : Type 0 where
+  pub conflicts : List ℕ
+  pub additions : List ℕ
+  pub are_conflicts : AreConflicts x asked conflicts
+  pub are_additions : AreAdditions x asked additions
+  pub is : text ≡ conflicts ++ additions
+
 pub record AnswersConflicts (asked : Option EntryPair) (x : Exchange) (a : Answer) : Type 0 where
   pub status : a.status ≡ status.Done
-  pub told : AreConflicts x asked a.text
+  pub told : TellsAll x asked a.text
 
 -- the pair of two numbers, where both are numbers
 abbrev pub both_numbers : Option ℕ → Option ℕ → Option EntryPair

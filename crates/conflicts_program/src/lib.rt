@@ -1,4 +1,5 @@
-// The program plex-conflicts as one call: all conflicts of an exchange, with their statements.
+// The program plex-conflicts as one call: all conflicts of an exchange, with their statements, and
+// what its jobs only add to.
 //
 // What goes in: the name of an exchange text, and the numbers of two entries where one pair is
 // asked for; a shelf of files and a sink. What comes out: a status, and in the sink the text, or

@@ -5,11 +5,13 @@ ghost use Rattle.answer_meaning.specs.ExchangeAnswer.{FromExchange};
 ghost use Rattle.answer_meaning.specs.Stages.{Performs, ReadAs};
 ghost use Rattle.answer_meaning.specs.Program.{Answers, ProcessEnds, ProcessEndsAs, IsComplete};
 ghost use Rattle.answer_meaning.specs.Program.{IsEnding};
-ghost use Rattle.answer_meaning.specs.Program.{Makes, ReadCause, WriteCause};
+ghost use Rattle.answer_meaning.specs.Program.{Makes, ReadCause, TellsFault, WriteCause};
 ghost use Rattle.conflicts_program.specs.Words.{AnswersConflicts, AreOthers, IsConflictsAnswer};
 ghost use Rattle.conflicts_program.specs.Words.{asked_by, is_own, usage_answer, usage_text};
 
-use answer_meaning::{Answer, Stop};
+use access_summary::summaries_of;
+use additions_text::add_additions;
+use answer_meaning::{Answer, ProgramEnd, Stop};
 use command_answers::write_answer;
 use command_words::Status;
 use conflicts_meaning::EntryPair;
@@ -26,36 +28,49 @@ use text_parts::Text;
 /// `words` are the command's words without the program's name. Where the shelf tells its files, the
 /// status and the text are those of the answer (`IsConflictsAnswer`), but for `Read` where a read
 /// failed, `Write` where the sink failed or is full, and then a proper front of the text was
-/// written, and `Memory`.
+/// written, and `Memory`. With the status of a refusal, and no other, comes the fault whose line
+/// was written.
 #[tactic(auto, using(answer_meaning::proofs::Endings::ending))]
 pub fn plex_conflicts<S: Shelf, K: Sink>(
     alloc: Global,
     words: &[Word],
     shelf: &mut S,
     sink: &mut K,
-) -> Status
+) -> ProgramEnd
     ensures answers { IfSome (S.held shelf.old)
         (λ files. ProcessEndsAs (IsConflictsAnswer words.now files)
-        (K.written sink.old) (K.written sink.new) result) }
+        (K.written sink.old) (K.written sink.new) result.status) }
     ensures unshaped { AreOthers words.now →
-        ProcessEnds usage_answer (K.written sink.old) (K.written sink.new) result }
-    ensures usage { result ≡ Status.Usage → AreOthers words.now }
-    ensures read { result ≡ Status.Read →
+        ProcessEnds usage_answer (K.written sink.old) (K.written sink.new) result.status }
+    ensures usage { result.status ≡ Status.Usage → AreOthers words.now }
+    ensures read { result.status ≡ Status.Read →
         ReadCause (IsConflictsAnswer words.now) (S.held shelf.old)
         (S.faults shelf.old) (S.faults shelf.new) (K.written sink.old) (K.written sink.new) }
-    ensures write { result ≡ Status.Write →
+    ensures write { result.status ≡ Status.Write →
         WriteCause (K.size sink.old) (K.written sink.new) (K.faults sink.old) (K.faults sink.new) }
-    ensures memory { result ≡ Status.Memory → K.written sink.new ≡ K.written sink.old }
+    ensures memory { result.status ≡ Status.Memory → K.written sink.new ≡ K.written sink.old }
     ensures complete { IfSome (S.held shelf.old)
         (λ files. IsComplete (IsConflictsAnswer words.now files)
-        (S.faults shelf.old) (S.faults shelf.new) (K.faults sink.old) (K.faults sink.new) result) }
+        (S.faults shelf.old) (S.faults shelf.new) (K.faults sink.old) (K.faults sink.new)
+        result.status) }
+    ensures fault { TellsFault (K.written sink.old) (K.written sink.new) result.status
+        result.fault }
 {
     match answered(alloc, words, shelf) {
-        Ok(answer) => write_answer(sink, &answer),
-        Err(Stop::Told(answer)) => write_answer(sink, &answer),
-        Err(Stop::NotHeld) => Status::Read,
-        Err(Stop::Failed) => Status::Read,
-        Err(Stop::Memory) => Status::Memory,
+        Ok(answer) => write_answer(sink, &answer, None),
+        Err(Stop::Told { answer, fault }) => write_answer(sink, &answer, Some(fault)),
+        Err(Stop::NotHeld) => ProgramEnd {
+            status: Status::Read,
+            fault: None,
+        },
+        Err(Stop::Failed) => ProgramEnd {
+            status: Status::Read,
+            fault: None,
+        },
+        Err(Stop::Memory) => ProgramEnd {
+            status: Status::Memory,
+            fault: None,
+        },
     }
 }
 
@@ -151,7 +166,7 @@ fn tell<S: Shelf>(
     Ok(answer)
 }
 
-/// The answer with the conflicts of an exchange.
+/// The answer with the conflicts of an exchange, and behind them its additions.
 fn conflicts_answer(
     alloc: Global,
     exchange: &Exchange,
@@ -160,7 +175,9 @@ fn conflicts_answer(
     ensures answer { IfOk result (AnswersConflicts asked exchange.now) }
     ensures ending { IfOk result (λ a. IsEnding a.status) }
 {
-    let text = conflicts(alloc, exchange, asked)?;
+    let summaries = summaries_of(alloc, exchange)?;
+    let mut text = conflicts(alloc, exchange, &summaries, asked)?;
+    add_additions(&mut text, alloc, exchange, &summaries, asked)?;
     Ok(Answer {
         status: Status::Done,
         text,

@@ -1,15 +1,12 @@
 -- Rows by what is known of an entry are those by the least facts.
-use Rattle.std.proofs.Common.{inl, inr, ℕ, List, None, refl}
+use Rattle.std.proofs.Common.{inl, inr, ℕ, List, refl}
 use Rattle.plex_num.specs.declared.level.Level.{Level}
 use Rattle.exchange_model.specs.declared.exchange.Exchange.{Exchange}
 use Rattle.flow_points.specs.declared.fact.Slot.{Slot}
 use Rattle.flow_points.specs.declared.fact.Value.{Value}
 use Rattle.flow_points.specs.Facts.{Facts, IsLeast, Known, fact}
 use Rattle.fact_rows.specs.Known.{BitRows, Knows}
-use Rattle.least_facts.specs.declared.looks.Looked.{Looked}
-use Rattle.least_facts.specs.declared.looks.Looked.TheVariants.{Over, Whole}
 use Rattle.least_facts.specs.Least.{KnowLeast}
-use Rattle.least_facts.specs.Looks.{FindsWithin}
 use Rattle.entry_summary.specs.declared.summary.Access.{Access}
 use Rattle.entry_summary.specs.declared.summary.Summary.{Summary}
 use Rattle.conflicts_meaning.specs.declared.rows.GivenAt.{GivenAt}
@@ -48,8 +45,3 @@ some_of_least x e k s rows know given = record {
   each = λ r c. given_on x (Knows k) (IsLeast x) e (λ p t v f. ((know.exact (fact e p t v)).0 f).1) s r (given.each r c);
   rising = given.rising;
 }
-
--- where there is no bound, all is found
-pub learned_all : {F : Type 0} (o : Looked) → FindsWithin None F o → F
-learned_all (Whole looks) found = found
-learned_all (Over looks) over = absurd over

@@ -10,7 +10,7 @@ use plex_num::{Memory, Seq};
 use std::alloc::Global;
 
 /// The sections that are told of so many entries: all, or those of the pair that is asked for.
-pub(crate) fn sections(
+pub fn asked_sections(
     alloc: Global,
     count: usize,
     asked: Option<EntryPair>,

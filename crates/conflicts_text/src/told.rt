@@ -24,7 +24,7 @@ use text_parts::Text;
 
 /// What is made once of an exchange.
 #[derive(Clone, Copy)]
-pub(crate) struct Means<'a> {
+pub struct Means<'a> {
     pub exchange: &'a Exchange,
     pub table: &'a FlowTable,
     pub places: &'a [PlaceAt<'a>],

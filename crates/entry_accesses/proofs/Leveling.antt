@@ -42,7 +42,7 @@ same_level l m is = sym (level_back l) ∙ ap level_at (eqb-true (level_number l
 
 -- a level is found exactly where it is among those that were sent to
 
-found_is : (sent : List Level) (l : Level) → is_sent sent l ≡ true → Contains sent l
+pub found_is : (sent : List Level) (l : Level) → is_sent sent l ≡ true → Contains sent l
 found_is [] l is = absurd (let clash : false ≡ true = is in cc)
 found_is (m ∷ sent) l is = by (nat_eq (level_number m) (level_number l)) refl is (found_is sent l)
   where
@@ -51,7 +51,7 @@ found_is (m ∷ sent) l is = by (nat_eq (level_number m) (level_number l)) refl 
     by true here h rest = subst (Contains (m ∷ sent)) (same_level m l here) (first_is m sent)
     by false here h rest = later_is m l sent (rest h)
 
-is_found : (sent : List Level) (l : Level) → Contains sent l → is_sent sent l ≡ true
+pub is_found : (sent : List Level) (l : Level) → Contains sent l → is_sent sent l ≡ true
 is_found [] l c = absurd (none_in l c)
 is_found (m ∷ sent) l c = by (nat_eq (level_number m) (level_number l)) refl (is_found sent l)
   where

@@ -1,15 +1,16 @@
 """What plex-conflicts says of an exchange, told a second time, slowly and by hand.
 
 `conflicts(text, asked)` gives the text that it writes of an exchange text in bytes, of all entries,
-or of the two whose numbers are `asked`. It follows docs/FORMATS.md, All conflicts, and stands on
+or of the two whose numbers are `asked`. It follows docs/OUTPUTS.md, All conflicts, and stands on
 `oracle.analysis`: an access is looked for at each statement of its entry, and each access of one
-entry is held beside each of another. Texts must break no rule, and are meant to be short.
+entry is held beside each of another. `oracle.additions` has the last part. Texts must break no
+rule, and are meant to be short.
 """
 from __future__ import annotations
 
 from typing import Any, Iterable, Iterator, Optional, Sequence
 
-from gate.oracle import analysis
+from gate.oracle import additions, analysis
 from gate.oracle.analysis import Access, Node, Summary, meet, text_of, value_key
 
 KINDS = ("variable", "field", "own", "seize", "free")
@@ -106,13 +107,11 @@ def told(parts: Iterable[str], most: int) -> Iterator[str]:
 
 
 def conflicts(text: bytes, asked: Optional[tuple[int, int]] = None, most: int = MOST_TOLD) -> str:
-    exchange = analysis.Exchange(text)
-    summaries = [
-        analysis.Summary(analysis.Facts(exchange, entry).close())
-        for entry in range(len(exchange.entries))
-    ]
+    exchange = additions.Exchange(text)
+    summaries = additions.summaries_of(exchange)
     lines = [line for summary in summaries for line in summary.lines()]
     before = text_of(
         [*lines, *analysis.pair_lines(exchange, summaries), "END PAIRS", "CONFLICTS 1"]
     )
-    return before + "".join(told(sections(summaries, asked), most))
+    clashes = "".join(told(sections(summaries, asked), most))
+    return before + clashes + additions.additions(summaries, asked)

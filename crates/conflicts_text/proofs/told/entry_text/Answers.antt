@@ -2,10 +2,12 @@ use Rattle.std.proofs.Common.{ap, refl}
 use Rattle.std.specs.List.{flat_map}
 use Rattle.access_summary.proofs.Summed.{reached_in}
 use Rattle.fact_rows.specs.Known.{Knows}
+use Rattle.least_facts.specs.Giving.{IsOwnLeast}
+use Rattle.least_facts.proofs.Growing.{found_always}
 use Rattle.conflicts_meaning.specs.Lines.{point_text}
 use Rattle.conflicts_meaning.specs.Points.{AreGiven, AreSomeGiven}
 use Rattle.conflicts_meaning.specs.Told.{HasEntryLines, IsEntryText}
-use Rattle.conflicts_text.proofs.Alike.{given_of_least, learned_all, some_of_least}
+use Rattle.conflicts_text.proofs.Alike.{given_of_least, some_of_least}
 use Rattle.conflicts_text.proofs.Fitting.{entry_lines, rows_are_all, rows_are_more, whole_within}
 use Rattle.conflicts_text.proofs.told.entry_text.Goals as goal
 
@@ -27,7 +29,9 @@ returns-in_default-clause-text c =
         there = c.at-summary.ensures;
         rows = more.0;
         given = some_of_least c.args.means.now.exchange.now c.args.number c.known-facts.result.now c.at-summary.result.now more.0
-            (c.known-facts.ensures c.args.means.now.exchange.now c.args.number (learned_all _ c.in_ok-learn.ensures.learned)) more.1;
+            (c.known-facts.ensures c.args.means.now.exchange.now c.args.number
+            (found_always (IsOwnLeast c.args.means.now.exchange.now c.args.number) _ c.in_ok-learn.ensures.learned))
+            more.1;
         are = refl;
       },
       more.2,
@@ -44,7 +48,8 @@ returns-clause-text c =
       there = c.at-summary.ensures;
       rows = c.in-Some.rows;
       given = given_of_least c.args.means.now.exchange.now c.args.number c.known-facts.result.now c.at-summary.result.now c.in-Some.rows
-          (c.known-facts.ensures c.args.means.now.exchange.now c.args.number (learned_all _ c.in_ok-learn.ensures.learned))
+          (c.known-facts.ensures c.args.means.now.exchange.now c.args.number
+          (found_always (IsOwnLeast c.args.means.now.exchange.now c.args.number) _ c.in_ok-learn.ensures.learned))
           (rows_are_all (AreGiven c.args.means.now.exchange.now (Knows c.known-facts.result.now) c.args.number
           c.at-summary.result.now) (AreSomeGiven c.args.means.now.exchange.now (Knows c.known-facts.result.now)
           c.args.number c.at-summary.result.now)
