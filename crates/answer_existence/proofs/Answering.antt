@@ -22,7 +22,8 @@ use Rattle.answer_meaning.specs.RunAnswer.{run_answer, run_of}
 use Rattle.answer_meaning.specs.TimedAnswer.{timed_of}
 use Rattle.answer_meaning.specs.TraceAnswer.{trace_of}
 use Rattle.answer_meaning.specs.ChangeAnswer.{AnswersChange, ChangeComes, ChangesOrNot}
-use Rattle.answer_meaning.specs.ChangeAnswer.{changed_answer, is_changed, misfit_answer}
+use Rattle.answer_meaning.specs.ChangeAnswer.{changed_answer, is_changed}
+use Rattle.answer_meaning.specs.Text.{misfit_refusal}
 use Rattle.answer_meaning.specs.ListAnswer.{list_of}
 use Rattle.answer_meaning.specs.LoadAnswer.{load_of}
 use Rattle.answer_meaning.specs.ExchangeAnswer.{AnswersAnalysis, AnswersCertificate, FromExchange}
@@ -85,17 +86,17 @@ changes_or_not old new lines jobs at true kept =
     (changed_answer old new before c.0 jobs at, record { carried = c.0; is = c.1; answers = refl })
 changes_or_not old new lines jobs at false kept = (run_answer old lines jobs, refl)
 
-change_answer : (old new : Exchange) (lines : List Line) (jobs at : ℕ) (m : Option Misfit) → IsExchange new
-    → (a : Answer) × AnswersChange old new lines jobs at m a
-change_answer old new lines jobs at None kept = changes_or_not old new lines jobs at (is_changed old lines jobs at) kept
-change_answer old new lines jobs at (Some m) kept = (misfit_answer old m, refl)
+change_outcome : (old new : Exchange) (lines : List Line) (jobs at : ℕ) (m : Option Misfit) → IsExchange new
+    → (o : Out Answer) × AnswersChange old new lines jobs at m o
+change_outcome old new lines jobs at None kept = (let a = changes_or_not old new lines jobs at (is_changed old lines jobs at) kept in (Ok a.0, a.1))
+change_outcome old new lines jobs at (Some m) kept = (Err (misfit_refusal old m), refl)
 
 change : (w : ChangeWords) (files : Files) → Comes (ChangeComes w files)
 change w files =
     goes_on (exchange_at w.run.exchange files) _ (λ old comes.
     goes_on (lines_at old w.run.signals files) _ (λ lines told.
     goes_on (exchange_as New w.new files) _ (λ new also.
-    (let a = change_answer old new lines w.run.bounds.jobs w.at (misfit old new) (accepted New w.new files new also).kept in (Ok a.0, a.1)))))
+    change_outcome old new lines w.run.bounds.jobs w.at (misfit old new) (accepted New w.new files new also).kept)))
 
 -- all commands
 

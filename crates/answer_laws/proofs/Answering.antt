@@ -25,8 +25,8 @@ use Rattle.answer_meaning.specs.declared.fault.Which.TheVariants.{New}
 use Rattle.answer_meaning.specs.Given.{exchange_as, exchange_at, lines_at, text_at}
 use Rattle.answer_meaning.specs.RunAnswer.{IsCertifiedRun, RunComes, end_of, or_certificate_fault}
 use Rattle.answer_meaning.specs.RunAnswer.{run_answer}
-use Rattle.answer_meaning.specs.ChangeAnswer.{AnswersChange, ChangeAnswers, ChangeComes}
-use Rattle.answer_meaning.specs.ChangeAnswer.{ChangesOrNot, changed_answer, is_changed}
+use Rattle.answer_meaning.specs.ChangeAnswer.{AnswersChange, ChangeComes, ChangesOrNot}
+use Rattle.answer_meaning.specs.ChangeAnswer.{changed_answer, is_changed}
 use Rattle.answer_meaning.specs.ExchangeAnswer.{AnswersAnalysis, AnswersCertificate, FromExchange}
 use Rattle.answer_meaning.specs.Answer.{IsAnswer, IsAnswerBy, answer_of, performed}
 use Rattle.answer_meaning.specs.declared.answer.Answer.{Answer}
@@ -88,18 +88,19 @@ changed_once old new lines jobs at true a c kept one other =
     one.answers ∙ ap (λ s. changed_answer old new (end_of old lines at) s jobs at) carried ∙ sym other.answers
 changed_once old new lines jobs at false a c kept one other = one ∙ sym other
 
-change_once : (old new : Exchange) (lines : List Line) (jobs at : ℕ) (m : Option Misfit) (a b : Answer) → IsExchange new
-    → AnswersChange old new lines jobs at m a → AnswersChange old new lines jobs at m b → a ≡ b
-change_once old new lines jobs at None a b kept one other = changed_once old new lines jobs at (is_changed old lines jobs at) a b kept one other
-change_once old new lines jobs at (Some m) a b kept one other = one ∙ sym other
+change_once : (old new : Exchange) (lines : List Line) (jobs at : ℕ) (m : Option Misfit) (o p : Out Answer)
+    → IsExchange new → AnswersChange old new lines jobs at m o → AnswersChange old new lines jobs at m p → o ≡ p
+change_once old new lines jobs at None o p kept one other =
+    an_answer_once (ChangesOrNot old new lines jobs at (is_changed old lines jobs at)) o p
+    (λ a b. changed_once old new lines jobs at (is_changed old lines jobs at) a b kept) one other
+change_once old new lines jobs at (Some m) o p kept one other = sym one ∙ other
 
 changes_once : (w : ChangeWords) (files : Files) (o p : Out Answer) → ChangeComes w files o → ChangeComes w files p → o ≡ p
 changes_once w files o p one other =
     goes_once (exchange_at w.run.exchange files) _ o p (λ old comes.
     goes_once (lines_at old w.run.signals files) _ o p (λ lines told.
     goes_once (exchange_as New w.new files) _ o p (λ new also.
-    an_answer_once (ChangeAnswers old new lines w.run.bounds.jobs w.at) o p (λ a b.
-    change_once old new lines w.run.bounds.jobs w.at (misfit old new) a b (accepted New w.new files new also).kept)))) one other
+    change_once old new lines w.run.bounds.jobs w.at (misfit old new) o p (accepted New w.new files new also).kept))) one other
 
 -- all commands
 
