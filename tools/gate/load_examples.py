@@ -1,13 +1,17 @@
 """A load whose figures are worked out by hand, and loads that are told by a trace. For
-`test_compare_load.py`.
+`test_compare_load.py` and `test_compare_bounds.py`.
 
+`Loads` makes loads of texts, counts what is compared of them, and notes what does not hold.
 `compared(figures)` gives each figure of the load `TEXT` with `LINES`, with what it must be.
 `of_trace(load, traced, patience)` gives what of a load that is told by a trace is otherwise than
 the run has it.
 """
+import pathlib
+from collections import Counter
 from typing import Any, Dict, Iterator, List, NamedTuple, Sequence, Set
 
-from plextools.runs.jobs import Load
+from plextools.analysis.why import Exchange
+from plextools.runs.jobs import Load, jobs_of
 from plextools.runs.report import Figures
 
 TEXT = """SIGNAL ADD SINGLE BUFFERED B DATA 0;
@@ -62,6 +66,38 @@ class Compared(NamedTuple):
     name: str
     got: object
     wanted: object
+
+
+class Loads:
+    """Compares loads whose files stand in a folder."""
+
+    keeps_facts = False
+
+    def __init__(self, folder: pathlib.Path) -> None:
+        self.folder, self.counts, self.wrong = folder, Counter[str](), list[str]()
+
+    def need(self, holds: object, what: str, told: str) -> None:
+        """Counts what is compared, and notes what does not hold."""
+        self.counts[what] += 1
+        if not holds:
+            self.wrong.append(f"{what}: {told}")
+
+    def exchange(self, content: bytes) -> Exchange:
+        """An exchange as plex-load has it."""
+        (self.folder / "E").write_bytes(content)
+        return Exchange(str(self.folder / "E"), keeps_facts=self.keeps_facts)
+
+    def load_of(
+        self,
+        exchange: Exchange,
+        signals: bytes,
+        limit: int,
+        patience: int,
+        touches: bool = False,
+    ) -> Load:
+        """The jobs of a run."""
+        (self.folder / "S").write_bytes(signals)
+        return jobs_of(exchange, str(self.folder / "S"), limit, patience, touches)
 
 
 def compared(told: Figures) -> Iterator[Compared]:

@@ -12,13 +12,13 @@ from __future__ import annotations
 
 import pathlib
 import random
-from collections import Counter
 from typing import Any, Iterator, Optional
 
 import pytest
 
 from gate import load_examples
 from gate.checking import Tally, check
+from gate.load_examples import Loads
 from gate.makers import made_exchange
 from gate.test_compare_load import EXAMPLE, EXAMPLE_LINES
 from plextools.analysis import why
@@ -186,24 +186,13 @@ def chain_by_pairs(load: jobs.Load, rules: ByPairs) -> int:
 # what is compared
 
 
-class Comparison:
-    """Compares loads whose files stand in a folder."""
+class Comparison(Loads):
+    """Compares loads with what their jobs touch."""
 
-    def __init__(self, folder: pathlib.Path) -> None:
-        self.folder, self.counts, self.wrong = folder, Counter[str](), list[str]()
-
-    def need(self, holds: object, what: str, told: str) -> None:
-        self.counts[what] += 1
-        if not holds:
-            self.wrong.append(f"{what}: {told}")
-
-    def exchange(self, content: bytes) -> why.Exchange:
-        (self.folder / "E").write_bytes(content)
-        return why.Exchange(str(self.folder / "E"), keeps_facts=True)
+    keeps_facts = True
 
     def load(self, exchange: why.Exchange, signals: bytes, limit: int) -> jobs.Load:
-        (self.folder / "S").write_bytes(signals)
-        return jobs.jobs_of(exchange, str(self.folder / "S"), limit, PATIENCE, touches=True)
+        return self.load_of(exchange, signals, limit, PATIENCE, touches=True)
 
     def made(self, case: made_exchange.Case) -> bool:
         """An exchange made by chance; tells whether its run is short enough."""
@@ -247,8 +236,12 @@ class Comparison:
         figures = precision.precision(exchange, load)
         for name in ("pairs", "commuting", "allowed"):
             self.counts[name] += int(figures[name])  # type: ignore[literal-required]
-        wrong = figures["allowed_wrongly"]
+        adding, sums = figures["with_additions"], figures["with_sums"]
+        wrong = sum(one["allowed_wrongly"] for one in (figures, adding, sums))
         self.need(wrong == 0, "orders", f"{wrong} pairs that are allowed do not commute")
+        is_more = figures["allowed"] <= adding["allowed"] <= sums["allowed"]
+        self.need(is_more, "orders", "with additions or sums fewer pairs are allowed")
+        self.counts["with sums alone"] += sums["allowed"] - adding["allowed"]
         lost = figures["commuting"] - figures["allowed"]
         told = sum(row["pairs"] for row in figures["lost"])
         self.need(told == lost, "orders", f"{told} pairs have a cause, and {lost} are lost")
@@ -292,3 +285,40 @@ def test_example(comparison: Comparison, name: str) -> None:
         for bound in (told["touches"], told["additions_commute"])
     ]
     assert got == wanted
+
+
+# A job that divides by zero in no forlopp restarts the exchange, which removes the job that waits
+# behind it; so that one never stands beside it. The two jobs before them commute, since the first
+# one divides by 1, and are kept apart, since it might have faulted.
+RESTARTING = """SIGNAL DIVIDE SINGLE BUFFERED B DATA 1;
+SIGNAL COUNT SINGLE BUFFERED B DATA 0;
+BLOCK K;
+DECLARE; VARIABLE V WIDTH 8; VARIABLE N WIDTH 32; TEMPORARY T;
+SURVEY; RECEIVE DIVIDE; RECEIVE COUNT;
+PROGRAM;
+ENTER DIVIDE WITH T;
+V = 8 / T;
+EXIT;
+ENTER COUNT;
+N = N + 1;
+EXIT;
+END BLOCK;
+"""
+RESTARTING_LINES = """AFTER 0 DIVIDE K 1 NONE
+AFTER 0 COUNT K NEW
+AFTER 2 DIVIDE K 0 NONE
+AFTER 2 COUNT K NEW
+"""
+
+
+def test_faults_in_no_forlopp(comparison: Comparison) -> None:
+    """A first job that may fault in no forlopp is allowed beside no other one."""
+    exchange = comparison.exchange(RESTARTING.encode())
+    load = comparison.load(exchange, RESTARTING_LINES.encode(), 1000)
+    removed = load.jobs[3]
+    assert (len(load.ran), removed.place) == (3, 0)
+    assert play.Rules(exchange.conflicts).refusal(load.jobs[2], removed) is not None
+    figures = precision.precision(exchange, load)
+    got = figures["pairs"], figures["commuting"], figures["allowed"], figures["allowed_wrongly"]
+    assert got == (1, 1, 0, 0)
+    assert [row["cause"] for row in figures["lost"]] == ["FAULT"]

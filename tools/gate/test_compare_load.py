@@ -17,25 +17,24 @@
 """
 from __future__ import annotations
 
+import functools
 import itertools
 import operator
 import os
 import pathlib
 import random
 import re
-from collections import Counter
 from typing import Any, Iterator, NamedTuple
 
 import pytest
 
 from gate import harness, load_examples
 from gate.checking import ROOT, Tally, check, check_enough, leave_out
+from gate.load_examples import Loads
 from gate.makers import made_exchange
 from gate.oracle import analysis as oracle_analysis
 from gate.oracle import machine as oracle_machine
 from measure import count_threads
-from plextools.analysis import why as why_lines
-from plextools.runs import jobs as load_jobs
 from plextools.runs import play as load_play
 from plextools.runs import report as load_report
 
@@ -172,22 +171,18 @@ def issues() -> Iterator[Issues]:
 FOLLOWS, HOLDERS, ISSUES = list(follows()), list(follows_holder()), list(issues())
 
 
-class Comparison:
-    """Compares loads whose files stand in a folder."""
+@functools.lru_cache(maxsize=1)
+def analysed(content: bytes) -> tuple[Any, list[Any]]:
+    """An exchange as oracle.analysis has it, with the summaries of its entries."""
+    slow = oracle_analysis.Exchange(content)
+    entries = range(len(slow.entries))
+    return slow, [
+        oracle_analysis.Summary(oracle_analysis.Facts(slow, entry).close()) for entry in entries
+    ]
 
-    def __init__(self, folder: pathlib.Path) -> None:
-        self.folder, self.counts, self.wrong = folder, Counter[str](), list[str]()
 
-    def need(self, holds: object, what: str, told: str) -> None:
-        """Counts what is compared, and notes what does not hold."""
-        self.counts[what] += 1
-        if not holds:
-            self.wrong.append(f"{what}: {told}")
-
-    def exchange(self, content: bytes) -> Any:
-        """An exchange as plex-load has it."""
-        (self.folder / "E").write_bytes(content)
-        return why_lines.Exchange(str(self.folder / "E"))
+class Comparison(Loads):
+    """Compares loads with the program."""
 
     def load(
         self,
@@ -197,8 +192,7 @@ class Comparison:
         patience: int = 10**9,
     ) -> Any:
         """The jobs of a run."""
-        (self.folder / "S").write_bytes(signals)
-        return load_jobs.jobs_of(exchange, str(self.folder / "S"), limit, patience)
+        return self.load_of(exchange, signals, limit, patience)
 
     # cases of the crate
 
@@ -256,11 +250,7 @@ class Comparison:
 
     def verdicts(self, exchange: Any, content: bytes, load: Any, chance: random.Random) -> None:
         """Who may follow whom."""
-        slow = oracle_analysis.Exchange(content)
-        summaries = [
-            oracle_analysis.Summary(oracle_analysis.Facts(slow, entry).close())
-            for entry in range(len(slow.entries))
-        ]
+        slow, summaries = analysed(content)
         rules = load_play.Rules(exchange.conflicts)
         known: dict[tuple[int, int], tuple[Any, list[str]]] = {}
         pairs = list(itertools.permutations(load.ran[:60], 2))
@@ -312,9 +302,8 @@ class Comparison:
 
     def seizes(self) -> Iterator[set[str]]:
         """The files of which each entry may seize records, by oracle.analysis."""
-        slow = oracle_analysis.Exchange((self.folder / "E").read_bytes())
-        for entry in range(len(slow.entries)):
-            summary = oracle_analysis.Summary(oracle_analysis.Facts(slow, entry).close())
+        slow, summaries = analysed((self.folder / "E").read_bytes())
+        for summary in summaries:
             yield {slow.file_name(number) for (number,) in summary.of_kind("seize")}
 
     def threads(self, exchange: Any, case: Any, chance: random.Random) -> None:

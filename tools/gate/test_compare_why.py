@@ -251,8 +251,8 @@ def as_objects(exchange: Any, i: int, j: int) -> list[str]:
         for told in reason["first"] + reason["later"]:
             lines.append(f"{name}:{told['line']}: {told['text']} {told['does']}")
         lines.append(f"what helps: {reason['helps']}")
-        if reason["counter"]:
-            lines += [HEADS.sub("", line) for line in why_lines.counter_words(meant)]
+        names = exchange.counters.of(i, j, meant) if reason["counter"] else []
+        lines += [HEADS.sub("", line) for line in why_lines.counter_words(meant, names)]
     if any(reason["counter"] for reason in pair["reasons"]):
         behind = ", ".join(pair["behind"]) or "nothing"
         lines.append(HEADS.sub("", f"{why_lines.BEHIND}{behind}"))

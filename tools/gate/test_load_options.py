@@ -6,13 +6,16 @@ from __future__ import annotations
 
 import json
 import pathlib
-from typing import Any, Sequence
+import re
+from typing import Any, Iterator, Sequence
 
 import pytest
 
 from gate.checking import check_enough
+from gate.document_texts import OUTPUTS
 from gate.test_compare_load import EXAMPLE, EXAMPLE_LINES
 from gate.test_tool_examples import run
+from plextools.runs import load_changes, machine_costs, precision, report
 
 LEAST_COUNTERS = 14
 
@@ -33,7 +36,7 @@ COUNTERS: Sequence[tuple[str, str, bool]] = (
     ("V = T + V;", "V", True),
     ("V = V - T;", "V", True),
     ("V = 2 * T + V - T / 3;", "V", True),
-    ("V = (V + T);", "V", True),
+    ("V = (V + T);", "V", False),
     ("V = V + U;", "V", True),
     ("V = T - V;", "V", False),
     ("V = V + V;", "V", False),
@@ -109,6 +112,25 @@ def test_behind(folder: pathlib.Path) -> None:
     assert behind == ["IF FIRST 0 NOT LATER 0", "IF FORLOPP"]
 
 
+def test_verdict_with_additions(folder: pathlib.Path) -> None:
+    """What a pair is with additions is told where it is something else, of a test too."""
+    write(folder, E=TEXT.format(statement="F(P) = F(P) + T; V = V + 1;", width=32))
+    pair = told(folder, "plex-why", "E", "0", "0")[0]
+    assert pair["later"]["adds"] == ["VAR K.V", "FIELD K.F"]
+    assert pair["adding"] == pair["behind"] == ["IF FORLOPP"]
+    write(folder, E=TEXT.format(statement="F(P) = F(P) + T;", width=32))
+    pair = told(folder, "plex-why", "E", "0", "0")[0]
+    assert [one["counter"] for one in pair["reasons"]] == [True, False]
+    wrote = run(["plex-why", "E", "0", "0"], folder).stdout.decode()
+    assert "  a counter: both only add to F: in either order F is the same;" in wrote
+    assert "  behind what is added to: IF FORLOPP\n" in wrote
+    write(folder, E=TEXT.format(statement="P = 1; F(P) = F(P) + T;", width=32))
+    assert told(folder, "plex-why", "E", "0", "0")[0]["adding"] == ["ALWAYS"]
+    write(folder, E=TEXT.format(statement="V = T;", width=32))
+    pair = told(folder, "plex-why", "E", "0", "0")[0]
+    assert (pair["first"]["adds"], pair["adding"]) == ([], [])
+
+
 def test_changes_of_pairs(folder: pathlib.Path) -> None:
     """A pair is free, never together or still so, with what is gone and new."""
     write(folder, E=EXAMPLE, E2=EXAMPLE.replace("N = N + 1;", "").replace("S = S + I", "N = N + I"))
@@ -135,6 +157,13 @@ def test_changes_of_a_load(folder: pathlib.Path) -> None:
     assert changes["waited"] == [waited]
 
 
+def test_changes_of_statements(folder: pathlib.Path) -> None:
+    """The jobs of the second text are its own: each of three ADD has a statement more."""
+    write(folder, E=EXAMPLE, E2=EXAMPLE.replace("N = N + 1;", "N = N + 1; N = N;"), S=EXAMPLE_LINES)
+    changes = told(folder, "plex-load", "--diff", "E", "S", "E2", "--workers", "4")
+    assert [changes[side]["statements"] for side in ("before", "after")] == [29, 29 + 3]
+
+
 def test_costs_of_a_machine(folder: pathlib.Path) -> None:
     """A load on a machine whose workers cost time."""
     write(folder, E=EXAMPLE, S=EXAMPLE_LINES)
@@ -153,6 +182,26 @@ def test_machines(folder: pathlib.Path) -> None:
     assert {row["machine"]: row["pays_from"] for row in rows} == PAYS_FROM
     for row in rows:
         assert row["load_pays_from"] > row["load_pays_from_where_additions_commute"] > row["job"]
+
+
+def test_cost_of_a_signal(folder: pathlib.Path) -> None:
+    """A cost is the same by its option and in a file of machines."""
+    write(folder, E=EXAMPLE, S=EXAMPLE_LINES, M="near 20 2 1\n")
+    (row,) = told(folder, "plex-load", "E", "S", "--machines", "M")
+    words = ["--cost-job", "20", "--cost-send", "2", "--cost-sync", "1"]
+    (other,) = told(folder, "plex-load", "E", "S", *words)
+    assert other == {**row, "machine": other["machine"]} and row["signal"] == 2
+
+
+def test_jobs_and_workers(folder: pathlib.Path) -> None:
+    """The run ends after so many jobs; the figures are those of each count of workers, and what
+    jobs waited for is that of the last one.
+    """
+    write(folder, E=EXAMPLE, S=EXAMPLE_LINES)
+    got = told(folder, "plex-load", "E", "S", "--jobs", "4", "--workers", "1", "2", "3")
+    assert (got["jobs"], got["ending"]) == (4, "LIMIT")
+    assert [row["workers"] for row in got["workers"]] == [1, 2, 3]
+    assert got["blockers"]["workers"] == 3
 
 
 def test_dense(folder: pathlib.Path) -> None:
@@ -176,13 +225,40 @@ def test_skip(folder: pathlib.Path) -> None:
 
 def test_precision(folder: pathlib.Path) -> None:
     """Pairs of the example: a WORK beside any job is allowed and commutes; two ADD commute, and are
-    not allowed.
+    allowed with additions alone.
     """
     write(folder, E=EXAMPLE, S=EXAMPLE_LINES)
     got = told(folder, "plex-load", "--precision", "E", "S")
     assert (got["pairs"], got["commuting"], got["allowed"]) == (10, 10, 7)
     assert got["allowed_wrongly"] == 0
+    assert got["with_additions"] == {"allowed": 10, "share": 1.0, "allowed_wrongly": 0}
+    assert got["with_sums"] == got["with_additions"]
     assert [(row["cause"], row["pairs"]) for row in got["lost"]] == [("COUNTER", 3)]
+
+
+SUMS: Sequence[tuple[str, int]] = (
+    ("P = T MOD 4; G(P) = T;", 2),
+    ("P = (T - 1); G(P) = T;", 3),
+    ("P = T / 2; G(P) = T;", 3),
+    ("P = P + 1; G(P) = T;", 0),
+    ("P = T * T; G(P) = T;", 0),
+    ("P = 4 + T; G(P) = T;", 0),
+    ("P = T MOD 4 + 1; G(P) = T;", 0),
+    ("P = T MOD 4; U = T; G(P) = T;", 0),
+    ("FOR FIRST P IN R WHERE G = 9 GOTO L; L) G(P) = T;", 0),
+)
+
+
+@pytest.mark.parametrize("row", SUMS, ids=[row[0] for row in SUMS])
+def test_precision_with_sums(folder: pathlib.Path, row: tuple[str, int]) -> None:
+    """Pairs of jobs that would pass by a start value with one operation and a number."""
+    statement, wanted = row
+    write(folder, E=TEXT.format(statement=statement, width=32))
+    write(folder, S="AFTER 0 GO K 0 1 NEW\nAFTER 0 GO K 0 3 NEW\nAFTER 0 GO K 0 5 NEW\n")
+    got = told(folder, "plex-load", "--precision", "E", "S")
+    assert (got["pairs"], got["with_additions"]["allowed"]) == (3, 0)
+    assert got["with_sums"]["allowed"] == wanted
+    assert got["with_sums"]["allowed_wrongly"] == 0
 
 
 def test_precision_of_order(folder: pathlib.Path) -> None:
@@ -212,3 +288,44 @@ def test_wrong_words(folder: pathlib.Path, name: str) -> None:
     done = run(["plex-load", *words], folder)
     assert done.returncode == 2 and not done.stdout
     assert message in done.stderr.decode() and done.stderr.count(b"\n") <= 2
+
+
+# What plex-load writes as JSON, by its form, and the words of OUTPUTS.md that are no members.
+DICTIONARIES: Sequence[Any] = (
+    report.Figures,
+    report.OfPlay,
+    report.Blocks,
+    report.PairBlocks,
+    report.ChangePays,
+    report.Exact,
+    report.Bound,
+    report.OfEntry,
+    precision.Figures,
+    precision.OfCause,
+    machine_costs.OfMachine,
+    load_changes.Changes,
+    load_changes.Waited,
+)
+OTHER_WORDS = {"null", "plex trace", "plex-load --json", "--skip", "--precision", "--diff"}
+
+
+def members(told: object) -> Iterator[str]:
+    """The members of objects in JSON, but for those of `reasons`, which are reasons."""
+    for one in told if isinstance(told, list) else ():
+        yield from members(one)
+    for name, value in told.items() if isinstance(told, dict) else ():
+        yield name
+        yield from members(value) if name != "reasons" else ()
+
+
+def test_members_are_documented(folder: pathlib.Path) -> None:
+    """OUTPUTS.md has each member that plex-load may write, each cause, and no other word."""
+    part = OUTPUTS.split("\n## Loads as JSON\n", 1)[1].split("\n## ", 1)[0]
+    wanted = {name for one in DICTIONARIES for name in one.__annotations__}
+    waits, causes = set(report.WAITS), {cause.name for cause in precision.Cause}
+    assert set(re.findall(r"`([^`]+)`", part)) - OTHER_WORDS == wanted | waits | causes
+    write(folder, E=EXAMPLE, S=EXAMPLE_LINES, M=MACHINES)
+    kinds = "E S", "--precision E S", "E S --machines M", "--diff E S E"
+    answers = [told(folder, "plex-load", *kind.split()) for kind in kinds]
+    got = {name for answer in answers for name in members(answer)}
+    assert got <= wanted | waits and {"exact", "commuting", "pays_from", "before"} <= got

@@ -1,14 +1,16 @@
 """What `plex-conflicts` writes, read back: the analysis of an exchange, every conflict of its
-pairs, and the statements of each access.
+pairs, the statements of each access, and the additions.
 
 `Conflicts(name)` asks the program for all entries of an exchange text, `Conflicts(name, (i, j))`
 for one pair. What a text of all entries has no room for is asked for pair by pair. Entries of one
 class have the same level and the same lines; the conflicts of two classes are read once.
-docs/FORMATS.md, All conflicts, has the format.
+docs/OUTPUTS.md, All conflicts, has the format.
 """
+import functools
 from typing import Dict, Iterable, Iterator, List, NamedTuple, Optional, Sequence, Tuple
 
 from plextools import programs, tables
+from plextools.analysis import additions
 from plextools.analysis.lines import Analysis, Entry, NoAnalysis, read
 from plextools.analysis.reasons import Reason, conflict, test, tests_without_conflicts
 
@@ -43,9 +45,11 @@ class Conflicts:
     ) -> None:
         self.name, self.asked = name, asked
         self.text = programs.answer([name, *map(str, asked or ())], of=PROGRAM)
-        place = self.text.find(HEAD)
-        self.begin, self.last = place + len(HEAD), self.text.rfind(b"\n", 0, -1) + 1
-        if place < 0 or not self.text.startswith((END, LIMIT), self.last):
+        place, end = self.text.find(HEAD), self.text.rfind(additions.HEAD)
+        self.begin, self.end = place + len(HEAD), end + 1
+        self.last = self.text.rfind(b"\n", 0, end) + 1
+        is_whole = self.text.startswith((END, LIMIT), self.last) and 0 <= place < end
+        if not is_whole or self.text.find(additions.END, end) < 0:
             raise self.wrong("a line is missing")
         self.analysis = whole.same_analysis(self) if whole else self.read_analysis()
         self.classes: List[int] = whole.classes if whole else class_of_each(self.analysis.entries)
@@ -65,6 +69,16 @@ class Conflicts:
         try:
             return read(self.text[: self.begin - len(HEAD)].split(b"\n"))
         except NoAnalysis as wrong:
+            raise self.wrong(str(wrong)) from wrong
+
+    @functools.cached_property
+    def additions(self) -> additions.Additions:
+        """What jobs only add to, and the verdicts with additions."""
+        begin = self.end + len(additions.HEAD) - 1
+        told = self.text[begin : self.text.find(additions.END, begin - 1) + 1]
+        try:
+            return additions.Additions(told.splitlines())
+        except additions.NoAdditions as wrong:
             raise self.wrong(str(wrong)) from wrong
 
     def same_analysis(self, other: "Conflicts") -> Analysis:
@@ -103,7 +117,7 @@ class Conflicts:
         told = [pair for pair in self.analysis.told if self.analysis.is_never(*pair)]
         having = [pair for pair in told if self.asked in (None, pair)]
         prefixes = [b"CLASH %d %d " % pair for pair in having]
-        return dict(zip(having, self.sections(begin, [*prefixes, self.text[self.last :]])))
+        return dict(zip(having, self.sections(begin, [*prefixes, self.text[self.last : self.end]])))
 
     def lines(self, section: Section, prefix: bytes) -> bytes:
         """The lines of a section without the words with which all of them begin."""

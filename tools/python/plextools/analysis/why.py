@@ -126,7 +126,7 @@ class Exchange:
         self.made: Dict[int, Made] = {}
         self.unknown: Dict[Unknown, str] = {}
         self.sides: Dict[Side, List[Told]] = {}
-        self.counters = Counters(self.text, self.conflicts)
+        self.counters = Counters(self.conflicts)
 
     def entry(self, number: int) -> Entry:
         return self.analysis.entries[number]
@@ -481,16 +481,20 @@ def told(
         for side, head in zip(sides, heads):
             yield from placed(name, side, head, shown, max(map(len, heads)), widest)
         yield f"  what helps: {pair.cure(reason)}"
-        if exchange.counters.is_counter(i, j, reason):
-            yield from counter_words(reason)
+        yield from counter_words(reason, exchange.counters.of(i, j, reason))
     if any(exchange.counters.is_counter(i, j, reason) for reason in reasons):
         yield f"{BEHIND}{', '.join(exchange.counters.behind(i, j)) or 'nothing'}"
 
 
-def counter_words(reason: Reason) -> Iterator[str]:
-    """What is said of a conflict about what both only add to."""
-    name = short(reason.name)
-    yield f"{COUNTER}both only add to {name}: in either order {name} is the same; kept apart and"
-    yield "    added up at the end, or by an atomic add, both run at once"
-    yield f"{TODAY}SEND what is added to an entry of a block SUMS at level D, which adds it up;"
-    yield f"    who reads {name} there at a higher level sees it late"
+def counter_words(reason: Reason, names: Sequence[str]) -> Iterator[str]:
+    """What is said of a conflict or a test that is about these counters alone. What a test asks for
+    may be so as it is; a conflict stays one.
+    """
+    for name in map(short, names):
+        is_same = f"in either order {name} is the same"
+        yield f"{COUNTER}both only add to {name}: {is_same}; kept apart and"
+        yield "    added up at the end, or by an atomic add, both run at once"
+        if reason.is_conflict:
+            adds = "an entry of a block SUMS at level D, which adds it up;"
+            yield f"{TODAY}SEND what is added to {adds}"
+            yield f"    who reads {name} there at a higher level sees it late"

@@ -23,6 +23,7 @@ from typing import List, Optional, Sequence
 from plextools import limits, programs, progress, tables
 from plextools.analysis import why
 from plextools.commands import outputs
+from plextools.commands.command_words import described
 from plextools.runs import jobs, load_changes, machine_costs, play, precision, report
 from plextools.show.trace_json import Trace
 
@@ -94,12 +95,12 @@ def words_of() -> programs.Words:
     words.add_argument("--skip", type=programs.number_to(most_jobs), default=0)
     for option in ("--cost-job", "--cost-send", "--cost-sync", "--statement", "--machines"):
         words.add_argument(option)
-    words.add_argument("--trace-json", metavar="F")
+    words.add_argument("--trace-json")
     words.add_argument("--workers", type=programs.number_to(most_workers), nargs="+")
     words.add_argument("exchange")
     words.add_argument("signals")
     words.add_argument("after", nargs="*", default=[])
-    return words
+    return described(words)
 
 
 def read(words: programs.Words) -> argparse.Namespace:

@@ -11,6 +11,7 @@ which conflicts are gone, still there or new.
 from typing import Iterable, Iterator, List, Optional, Sequence
 
 from plextools import limits, programs, tables
+from plextools.commands.command_words import described
 from plextools.analysis import pair_changes, why
 from plextools.analysis.conflicts import Conflicts, Pair
 from plextools.analysis.lines import Analysis
@@ -89,7 +90,7 @@ def main() -> int:
     words.add_argument("--json", action="store_true")
     words.add_argument("exchange")
     words.add_argument("pair", nargs="*", default=[])
-    given = words.parse_args()
+    given = described(words).parse_args()
     if given.diff:
         if len(given.pair) != 1 or given.all:
             words.error("--diff takes two exchange texts, and may have --json alone beside it")

@@ -15,11 +15,14 @@ from plextools import programs, progress
 from plextools.analysis.why import Exchange
 from plextools.programs import answer, bytes_of
 from plextools.runs import check
+from plextools.runs.flows import Flows
 from plextools.runs.machine import Arrival, Job, Machine, TooLong
+from plextools.runs.observed import Watcher
 from plextools.runs.running import Sent
 from plextools.runs.signals import Line, lines_of
 from plextools.runs.steps import Program
 from plextools.runs.touches import Foot, TouchedContext, TouchedProgram, Trails, range_of
+from plextools.text.statements import Text
 
 PATIENCE = 20_000_000
 ENDINGS = (0, 4, 5)
@@ -32,8 +35,8 @@ class Load:
 
     `lines` has each line of the signal file that has arrived, and `signals` all of them. Where the
     load `is_dense` each is taken to be there when the turn of its job comes. The first `skipped`
-    jobs run but do not count. `feet` has what each job that ran has touched, where that was asked
-    for.
+    jobs run but do not count. `feet` has what each job that ran has touched, and `flows` what the
+    first ones sent, where that was asked for.
     """
 
     def __init__(
@@ -49,6 +52,7 @@ class Load:
         self.is_traced = is_traced
         self.entries = sorted({job.entry for job in jobs})
         self.feet: Optional[List[Foot]] = None
+        self.flows: Optional[Flows] = None
         self.signals: Sequence[Line] = ()
         self.is_dense = False
         self.skip(0)
@@ -145,6 +149,33 @@ class TouchRecorder(Recorder):
         return [variable.cell for variable in variables if variable.is_clear]
 
 
+class FlowRecorder(Recorder):
+    """The single run, which keeps what its first jobs sent."""
+
+    def __init__(
+        self, text: Text, lines: Sequence[Line], limit: int, patience: Optional[int], most: int
+    ) -> None:
+        program = Program(text, signals=True)
+        super().__init__(program, lines, limit, patience)
+        self.watcher = self.context.watch = Watcher(program, self.context, values=False)
+        self.plain, self.flows, self.most = Program(text), Flows(), most
+
+    def perform(self, job: Job) -> None:
+        if self.program is self.plain:
+            super().perform(job)
+            return
+        self.watcher.begin()
+        super().perform(job)
+        self.flows.add(self.watcher.steps, self.watcher.left_out)
+        if self.flows.is_full or len(self.flows.of_jobs) == self.most:
+            self.program, self.context.segments = self.plain, self.plain.segments
+
+    def load(self, is_traced: bool) -> Load:
+        made = super().load(is_traced)
+        made.flows = self.flows
+        return made
+
+
 class Tracer(Recorder):
     """The single run by the lines of a trace. `seizes` has the files of which each entry may seize
     records.
@@ -222,18 +253,22 @@ def jobs_of(
     limit: int,
     patience: int = PATIENCE,
     touches: bool = False,
+    flows: int = 0,
 ) -> Load:
     """The load of an exchange, whose text is known to be right, and of a signal file. It has what
-    its jobs touch where that is asked for, and where they are done statement by statement.
+    its jobs touch, or what so many first ones of them sent, where that is asked for, and where they
+    are done statement by statement.
     """
     signals, name = bytes_of(signals_name), exchange.text.name
     answer(["run", name, signals_name, "--workers", "1", "--jobs", "1"], ENDINGS)
     lines = lines_of(exchange.text, signals)
-    machine = (
-        TouchRecorder(TouchedProgram(exchange.text), lines, limit, patience)
-        if touches
-        else Recorder(Program(exchange.text), lines, limit, patience)
-    )
+    machine: Recorder
+    if touches:
+        machine = TouchRecorder(TouchedProgram(exchange.text), lines, limit, patience)
+    elif flows:
+        machine = FlowRecorder(exchange.text, lines, limit, patience, flows)
+    else:
+        machine = Recorder(Program(exchange.text), lines, limit, patience)
     try:
         machine.run()
     except TooLong:

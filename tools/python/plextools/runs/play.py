@@ -6,13 +6,13 @@ that waits, is issued beside those of the window where it may follow each of the
 the window retires when it has ended, and what it sent waits from then on. So the jobs come in the
 order of the single run. A job takes as much time as it does statements, and all else takes none.
 """
+import itertools
 from collections import Counter, deque
 from typing import (
     Callable,
     Counter as Counts,
     Deque,
     Dict,
-    FrozenSet,
     Iterable,
     List,
     NamedTuple,
@@ -32,9 +32,12 @@ LEVELS = "ABCD"
 FULL, LINE, SENDER, END, SAME = "full", "line", "sender", "end", "SAME"
 BETWEEN = 5000
 NEVER = float("inf")
+NONE = Numbers(0, 0)  # of a test that is about no values
 
 Holds = Callable[[Job, Job], bool]
 Key = Tuple[Union[int, str], ...]  # of a reason: see `keys_of`
+Pair = Tuple[int, int]
+Entries = Tuple[int, ...]
 # Is told now and then how many jobs have retired in a play with so many workers.
 Tell = Callable[[int, int], None]
 
@@ -105,31 +108,46 @@ class Against(NamedTuple):
 
 
 class Rules:
-    """Which job may follow which. Reasons whose keys are in `without` do not count."""
+    """Which job may follow which."""
 
-    def __init__(self, conflicts: Conflicts, without: FrozenSet[Key] = frozenset()) -> None:
-        self.conflicts, self.without = conflicts, without
-        self.known: Dict[Tuple[int, int], OfPair] = {}
+    def __init__(self, conflicts: Conflicts) -> None:
+        self.conflicts = conflicts
+        self.known: Dict[Pair, OfPair] = {}
+        self.sets: Dict[Tuple[int, Entries], Against] = {}
+        self.decisive: Dict[Entries, Dict[Key, List[Pair]]] = {}
 
     def pair(self, i: int, j: int) -> OfPair:
         """The verdict on two entries."""
         key = i, j
         if key not in self.known:
             conflict = self.conflict(i, j)
-            tests = [] if conflict else self.counting(i, j, self.conflicts.tests(i, j))
+            tests = [] if conflict else self.tests(i, j)
             self.known[key] = OfPair(conflict, [Test(test, holding(test)) for test in tests])
         return self.known[key]
 
     def conflict(self, i: int, j: int) -> Optional[Reason]:
         """The first conflict of two entries that counts."""
-        if not self.without:
-            return self.conflicts.first(i, j)
-        return next(iter(self.counting(i, j, self.conflicts.conflicts(i, j))), None)
+        return self.conflicts.first(i, j)
 
-    def counting(self, i: int, j: int, reasons: List[Reason]) -> List[Reason]:
-        if not self.without:
-            return reasons
-        return [reason for reason in reasons if not self.without & set(keys_of(i, j, reason))]
+    def tests(self, i: int, j: int) -> List[Reason]:
+        """The tests of two entries that no conflict keeps apart."""
+        return self.conflicts.tests(i, j)
+
+    def without(self, key: Key, entries: Entries) -> "RulesWithout":
+        """The rules without the reasons of a key, for jobs of these entries."""
+        if entries not in self.decisive:
+            self.decisive[entries] = self.decided(entries)
+        return RulesWithout(self, key, self.decisive[entries].get(key, ()))
+
+    def decided(self, entries: Entries) -> Dict[Key, List[Pair]]:
+        """The pairs of entries whose verdict a reason of a key decides, by the key."""
+        found: Dict[Key, List[Pair]] = {}
+        for i, j in itertools.product(entries, repeat=2):
+            conflict, tests = self.pair(i, j)
+            for reason in [conflict] if conflict else [test.reason for test in tests]:
+                for key in keys_of(i, j, reason):
+                    found.setdefault(key, []).append((i, j))
+        return found
 
     def refusal(self, first: Job, later: Job) -> Union[None, str, Reason]:
         """Why a job may not follow another one: a reason, SAME for two jobs of one forlopp, or None
@@ -147,8 +165,14 @@ class Rules:
                 return test
         return None
 
-    def against(self, later: int, entries: Iterable[int]) -> "Against":
+    def against(self, later: int, entries: Entries) -> Against:
         """Which of these entries are in the way of a job of another one, each as a bit."""
+        key = later, entries
+        if key not in self.sets:
+            self.sets[key] = self.made_against(later, entries)
+        return self.sets[key]
+
+    def made_against(self, later: int, entries: Entries) -> Against:
         conflicting = tested = 0
         for entry in entries:
             conflict, tests = self.known.get((entry, later)) or self.pair(entry, later)
@@ -159,6 +183,34 @@ class Rules:
         return Against(conflicting, tested)
 
 
+class RulesWithout(Rules):
+    """Rules without the reasons of a key. Those pairs have another verdict which such a reason
+    decides, as their first conflict or as one of their tests.
+    """
+
+    def __init__(self, rules: Rules, key: Key, decided: Iterable[Pair]) -> None:
+        super().__init__(rules.conflicts)
+        self.rules, self.key = rules, key
+        self.known = dict(rules.known)
+        for pair in decided:
+            del self.known[pair]
+        self.changed = {later for _, later in decided}
+
+    def conflict(self, i: int, j: int) -> Optional[Reason]:
+        return next(iter(self.counting(i, j, self.conflicts.conflicts(i, j))), None)
+
+    def tests(self, i: int, j: int) -> List[Reason]:
+        return self.counting(i, j, super().tests(i, j))
+
+    def counting(self, i: int, j: int, reasons: List[Reason]) -> List[Reason]:
+        return [reason for reason in reasons if self.key not in keys_of(i, j, reason)]
+
+    def made_against(self, later: int, entries: Entries) -> Against:
+        if later in self.changed:
+            return super().made_against(later, entries)
+        return self.rules.against(later, entries)
+
+
 class AddingRules(Rules):
     """The rules where counters keep nothing apart: the verdicts with additions."""
 
@@ -166,35 +218,49 @@ class AddingRules(Rules):
         super().__init__(conflicts)
         self.counters = counters
 
-    def pair(self, i: int, j: int) -> OfPair:
-        key = i, j
-        if key not in self.known:
-            conflict = self.conflict(i, j)
-            tests = [] if conflict else self.counters.tests_left(i, j)
-            self.known[key] = OfPair(conflict, [Test(test, holding(test)) for test in tests])
-        return self.known[key]
+    def tests(self, i: int, j: int) -> List[Reason]:
+        return self.counters.tests_left(i, j)
 
     def conflict(self, i: int, j: int) -> Optional[Reason]:
-        """The first conflict of two entries that is about no counter. The others are asked for only
-        where the first one is.
-        """
-        first = self.conflicts.first(i, j)
-        if first is None or not self.counters.is_counter(i, j, first):
-            return first
-        return next(iter(self.counters.conflicts_left(i, j)), None)
+        """The first conflict of two entries that is about no counter."""
+        return self.counters.conflict_left(i, j)
 
 
 def holding(test: Reason) -> Holds:
     """The function that tells whether a test holds of the first and the later of two jobs."""
-    a, b = test.numbers or Numbers(0, 0)
-    functions: Dict[str, Holds] = {
-        "DIFFER": lambda first, later: first.values[a] != later.values[b],
-        "FIRST NOT": lambda first, later: first.values[a] != b,
-        "LATER NOT": lambda first, later: later.values[a] != b,
-        "FORLOPP": lambda first, later: first.forlopp != 0,
-        "HOLDS NO": lambda first, later: test.name not in first.held,
-    }
-    return functions[test.kind]
+    return HOLDING[test.kind](test)
+
+
+def differ(test: Reason) -> Holds:
+    a, b = test.numbers or NONE
+    return lambda first, later: first.values[a] != later.values[b]
+
+
+def first_not(test: Reason) -> Holds:
+    a, b = test.numbers or NONE
+    return lambda first, later: first.values[a] != b
+
+
+def later_not(test: Reason) -> Holds:
+    a, b = test.numbers or NONE
+    return lambda first, later: later.values[a] != b
+
+
+def forlopp(_: Reason) -> Holds:
+    return lambda first, later: first.forlopp != 0
+
+
+def holds_no(test: Reason) -> Holds:
+    return lambda first, later: test.name not in first.held
+
+
+HOLDING: Dict[str, Callable[[Reason], Holds]] = {
+    "DIFFER": differ,
+    "FIRST NOT": first_not,
+    "LATER NOT": later_not,
+    "FORLOPP": forlopp,
+    "HOLDS NO": holds_no,
+}
 
 
 def keys_of(i: int, j: int, reason: Reason) -> List[Key]:
@@ -270,7 +336,7 @@ class Player:
         self.ends: Deque[int] = deque()
         self.counts, self.present = [0] * len(rules.conflicts.analysis.entries), 0
         self.forlopps: Set[int] = set()
-        self.known: Dict[int, Against] = {}
+        self.entries, self.known = tuple(load.entries), dict[int, Against]()
         self.held: Optional[Held] = None
         # When what counts has begun.
         self.start = 0
@@ -346,7 +412,7 @@ class Player:
         entry = job.entry
         against = self.known.get(entry)
         if against is None:
-            against = self.known[entry] = self.rules.against(entry, self.load.entries)
+            against = self.known[entry] = self.rules.against(entry, self.entries)
         if against.conflicting & self.present:
             return True
         return bool(against.tested & self.present) and self.fails_test(job)
@@ -362,11 +428,11 @@ class Player:
 
     def refusal_in_window(self, job: Job) -> Blocked:
         """Why the youngest of those jobs of the window that keep the next one back does so."""
-        place = len(self.begun) - 1
-        while self.rules.refusal(self.begun[place], job) is None:
+        begun, place, reason = self.begun, len(self.begun), None
+        while reason is None:
             place -= 1
-        older = self.begun[place]
-        reason = self.rules.refusal(older, job)
+            reason = self.rules.refusal(begun[place], job)
+        older = begun[place]
         if isinstance(reason, Reason):
             blocked = Blocked(older.entry, job.entry, reason.told, reason)
         else:

@@ -1,5 +1,6 @@
 """How precise the verdicts are for a load: of the pairs of jobs that stood beside one another, how
-many commute, how many of these the verdicts allow, and why they do not allow the others.
+many commute, how many of these the verdicts allow, without and with additions, and why they do not
+allow the others.
 
 `precision(exchange, load)` gives the `Figures`. An exchange has to keep its facts.
 """
@@ -10,14 +11,19 @@ from typing import Set, Tuple, TypedDict
 
 from plextools.analysis.lines import ANY
 from plextools.analysis.reasons import Reason, selectors_of
+from plextools.analysis.start_sums import StartSums
 from plextools.analysis.why import Exchange
 from plextools.runs.both_orders import Beside, Meetings, Met
 from plextools.runs.jobs import Load
 from plextools.runs.layout import Layout
-from plextools.runs.play import Rules, holding
+from plextools.runs.machine import Job
+from plextools.runs.play import AddingRules, Rules, holding
 from plextools.runs.touches import Foot
 from plextools.tables import in_columns
 from plextools.text.statements import factors_of
+
+
+ADDING, SUMS = "adding ", "sums "
 
 
 class Cause(Enum):
@@ -45,18 +51,27 @@ class OfCause(TypedDict):
     reasons: Dict[str, int]
 
 
-class Figures(TypedDict):
-    """The figures of a load. `share` is the part of the pairs that commute which is allowed;
+class Allowed(TypedDict):
+    """How many of the pairs that commute some verdicts allow; `share` is that part of them, and
     `allowed_wrongly` must be 0.
+    """
+
+    allowed: int
+    share: float
+    allowed_wrongly: int
+
+
+class Figures(Allowed):
+    """The figures of a load: of the verdicts, of those with additions, and of those with sums of
+    start values as well, which nothing proves.
     """
 
     jobs: int
     pairs: int
     commuting: int
     apart: int
-    allowed: int
-    share: float
-    allowed_wrongly: int
+    with_additions: Allowed
+    with_sums: Allowed
     lost: List[OfCause]
 
 
@@ -230,7 +245,8 @@ def precision(
 ) -> Figures:
     """The figures of a load that was done statement by statement."""
     meetings, rules = Meetings(exchange.text, load), Rules(exchange.conflicts)
-    causes = Causes(exchange, meetings.program.layout)
+    adding = AddingRules(exchange.conflicts, exchange.counters)
+    sums, causes = StartSums(exchange), Causes(exchange, meetings.program.layout)
     counts: Counts[str] = Counter()
     lost: Dict[Cause, Counts[str]] = {}
     for met in meetings.pairs():
@@ -238,8 +254,10 @@ def precision(
         counts["pairs"] += 1
         counts["commuting"] += met.commutes
         counts["apart"] += met.commutes and is_apart(met.feet)
-        counts["allowed"] += met.commutes and is_allowed
-        counts["wrong"] += is_allowed and not met.commutes
+        counts.update(judged(met, "", is_allowed))
+        is_adding = adding.refusal(*met.pair) is None
+        counts.update(judged(met, ADDING, is_adding))
+        counts.update(judged(met, SUMS, is_adding or passes(sums, *met.pair)))
         if met.commutes and not is_allowed:
             cause, reason = causes.lost(met)
             lost.setdefault(cause, Counter())[reason] += 1
@@ -248,17 +266,45 @@ def precision(
     return told(len(load.counted), counts, lost)
 
 
+def passes(sums: StartSums, first: Job, later: Job) -> bool:
+    """Whether two jobs would pass by the numbers of records that are sums of start values."""
+    pair = None if first.forlopp == later.forlopp != 0 else sums.pair(first.entry, later.entry)
+    return (
+        pair is not None
+        and all(apart.holds(first.values, later.values) for apart in pair.apart)
+        and all(holding(test)(first, later) for test in pair.tests)
+    )
+
+
+def judged(met: Met, way: str, is_allowed: bool) -> Iterator[str]:
+    """What is counted of a pair that some verdicts allow."""
+    if is_allowed:
+        yield f"{way}{'allowed' if met.commutes else 'wrong'}"
+
+
+def allowed(counts: Counts[str], way: str) -> Allowed:
+    """What some verdicts allow."""
+    number, commuting = counts[f"{way}allowed"], counts["commuting"]
+    return {
+        "allowed": number,
+        "share": number / commuting if commuting else 1.0,
+        "allowed_wrongly": counts[f"{way}wrong"],
+    }
+
+
 def told(jobs: int, counts: Counts[str], lost: Dict[Cause, Counts[str]]) -> Figures:
-    missing = counts["commuting"] - counts["allowed"]
+    plain, missing = allowed(counts, ""), counts["commuting"] - counts["allowed"]
     rows = sorted(lost.items(), key=lambda one: -sum(one[1].values()))
     return {
         "jobs": jobs,
         "pairs": counts["pairs"],
         "commuting": counts["commuting"],
         "apart": counts["apart"],
-        "allowed": counts["allowed"],
-        "share": counts["allowed"] / counts["commuting"] if counts["commuting"] else 1.0,
-        "allowed_wrongly": counts["wrong"],
+        "allowed": plain["allowed"],
+        "share": plain["share"],
+        "allowed_wrongly": plain["allowed_wrongly"],
+        "with_additions": allowed(counts, ADDING),
+        "with_sums": allowed(counts, SUMS),
         "lost": [
             {
                 "cause": cause.name,
@@ -292,9 +338,16 @@ def text_of(told: Figures) -> Iterator[str]:
     yield f"{told['jobs']} jobs, and {pairs} pairs of jobs that stood beside one another."
     yield f"{commuting} of them commute; in {told['apart']} of these neither touches what the other"
     yield f"stores. The verdicts allow {told['allowed']}, which is {percent(told['share'])}."
+    adding = told["with_additions"]
+    yield f"With additions they allow {adding['allowed']}, which is {percent(adding['share'])}."
     yield from MEANING
-    if told["allowed_wrongly"]:
-        yield f"{told['allowed_wrongly']} pairs that are allowed do not commute: this is a fault."
+    sums = told["with_sums"]
+    if sums["allowed"] > adding["allowed"]:
+        yield "If the analysis knew start values with one operation and a number, such as N MOD 48,"
+        yield f"they would allow {sums['allowed']}, which is {percent(sums['share'])}."
+    wrong = told["allowed_wrongly"] + adding["allowed_wrongly"]
+    if wrong:
+        yield f"{wrong} pairs that are allowed do not commute: this is a fault."
     if not told["lost"]:
         return
     yield ""

@@ -9,6 +9,7 @@ from typing import Dict, FrozenSet, Iterator, List, Optional, Sequence, Set, Tup
 
 from plextools.analysis import why as why_lines
 from plextools.analysis.reasons import Reason
+from plextools.limits import LONG_JOB
 from plextools.runs.exact import exact_plays, longest_chain
 from plextools.runs.jobs import Load
 from plextools.runs.play import END, FULL, LINE, SAME, SENDER
@@ -16,7 +17,7 @@ from plextools.runs.play import AddingRules, Blocked, Key, OfPair, Play, Rules, 
 from plextools.runs.play import keys_of, play, plays
 from plextools.tables import in_columns
 
-WORST, SHOWN, OTHERS, SHORT, MOST_ENTRIES = 10, 20, 3, 4000, 10
+WORST, SHOWN, OTHERS, MOST_ENTRIES = 10, 20, 3, 10
 MOST_EXACT = 5000  # jobs of a load that is played with exact knowledge too
 IDLE = 0.2  # of the time, from which on it is told
 WAITS = {"pair": "pair", LINE: "line", SENDER: "sender", END: "end"}
@@ -150,7 +151,8 @@ def figures(
     tell: Optional[Tell] = None,
 ) -> Figures:
     """The figures of a load for these counts of workers."""
-    made = plays(load, Rules(exchange.conflicts), [*counts, chosen], tell)
+    rules = Rules(exchange.conflicts)
+    made = plays(load, rules, [*counts, chosen], tell)
     chain = sum(job.length for job in load.chain())
     return {
         "jobs": len(load.counted),
@@ -160,17 +162,20 @@ def figures(
         "longest_chain": chain,
         "speed_up_by_chain": ratio(load.statements, chain),
         "workers": [of_play(made[workers]) for workers in counts],
-        "blockers": Blockers(exchange, load, made[chosen], tell).told(),
-        "exact": exact(exchange, load, counts, tell) if load.feet is not None else None,
+        "blockers": Blockers(exchange, load, made[chosen], rules, tell).told(),
+        "exact": exact(exchange, load, counts, rules, tell) if load.feet is not None else None,
         "entries": of_entries(exchange, load),
     }
 
 
 def exact(
-    exchange: why_lines.Exchange, load: Load, counts: Sequence[int], tell: Optional[Tell]
+    exchange: why_lines.Exchange,
+    load: Load,
+    counts: Sequence[int],
+    rules: Rules,
+    tell: Optional[Tell],
 ) -> Exact:
     """What exact knowledge of what jobs touch would bring."""
-    rules = Rules(exchange.conflicts)
 
     def bound(adding: bool) -> Bound:
         chain = longest_chain(load, adding)
@@ -231,11 +236,15 @@ class Blockers:
     """
 
     def __init__(
-        self, exchange: why_lines.Exchange, load: Load, made: Play, tell: Optional[Tell] = None
+        self,
+        exchange: why_lines.Exchange,
+        load: Load,
+        made: Play,
+        rules: Rules,
+        tell: Optional[Tell] = None,
     ) -> None:
-        self.exchange, self.load, self.made, self.tell = exchange, load, made, tell
-        self.rules = Rules(exchange.conflicts)
-        self.entries = load.entries
+        self.exchange, self.load, self.made, self.rules = exchange, load, made, rules
+        self.tell, self.entries = tell, tuple(load.entries)
         self.known: Dict[Union[Key, FrozenSet[Change]], float] = {frozenset(): made.speed}
 
     def told(self) -> Blocks:
@@ -248,7 +257,7 @@ class Blockers:
 
     def without(self, key: Key) -> float:
         """The speed-up of the load without the reasons of a key."""
-        rules = Rules(self.exchange.conflicts, frozenset([key]))
+        rules = self.rules.without(key, self.entries)
         changes = self.changed(key, rules)
         if changes not in self.known:
             made = play(self.load, rules, self.made.workers, tell=self.tell)
@@ -394,9 +403,9 @@ def of_run(told: Figures) -> Iterator[str]:
     if told["lengths_are_means"]:
         yield from MEANS
     mean = ratio(told["statements"], told["jobs"])
-    if told["jobs"] and mean < SHORT:
+    if told["jobs"] and mean < LONG_JOB:
         short = f"The jobs are short, {mean:.0f} statements each: plex itself hands jobs to other"
-        yield f"{short} workers from some {SHORT} on."
+        yield f"{short} workers from some {LONG_JOB} on."
         yield "Another machine may do so earlier: --cost-job tells of it."
     yield from of_idle(told)
 
