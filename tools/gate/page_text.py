@@ -4,21 +4,28 @@
 signals)` gives what is wrong with a page of one. It reads the data and what is drawn. The entries,
 the letters, the reasons and the lines that are reached are those of `oracle.analysis` and
 `oracle.why`; the bars and the waits are those of the jobs of the run, and fit each other: a bar is
-as wide as its job is long, and whenever the window stood still that ended when a job ended.
+as wide as its job is long, and whenever the window stood still that ended when a job ended. What
+jobs sent is that of a run whose jobs are all observed statement by statement.
 """
 import json
 import pathlib
 import random
 import re
-from typing import Any, Dict, Iterator, List, NamedTuple, Tuple
+from typing import Any, Dict, Iterator, List, NamedTuple, Optional, Tuple
 
 from gate.makers import made_exchange
 from gate.oracle import analysis as oracle_analysis
 from gate.oracle import why as oracle_why
 from plextools.analysis.why import Exchange
 from plextools.runs.jobs import jobs_of
-from plextools.runs.machine import Job
+from plextools.runs.choice import Chosen
+from plextools.runs.machine import Job, Machine
+from plextools.runs.observed import Message, Observed, Seen
 from plextools.runs.play import Bar, Play, Rules, play
+from plextools.runs.signals import lines_of
+from plextools.runs.steps import Program
+from plextools.show import chart
+from plextools.text.statements import Text
 
 DATA = re.compile(r'<script type="application/json" id="data">(.*?)</script>', re.S)
 SHAPE = r'x="([\d.]+)" y="(\d+)" width="([\d.]+)" height="\d+"'
@@ -198,6 +205,70 @@ def of_boxes(times: List[Tuple[int, int]], boxes: List[Drawn]) -> Iterator[str]:
             yield f"box {box.number}, {begin} to {end}, is called {box.title}"
 
 
+Sent = Tuple[str, str, str, str, int, Tuple[int, ...], Optional[int]]
+
+
+def flow_of(flows: Any, place: int) -> Iterator[Sent]:
+    """The signals of a job in the data: the kind, the name, the blocks, the line, the values, and
+    the job that a buffered one started.
+    """
+    words, receivers = [*flows["words"], "outside"], iter(flows["receivers"][place])
+    for number in flows["lists"][flows["jobs"][place]]:
+        kind, name, source, target, line, *values = flows["signals"][number]
+        names = words[kind], words[name], words[source], words[target]
+        yield (*names, line, tuple(values), next(receivers) if words[kind] == "buffered" else None)
+
+
+def observed_flow(text: Text, seen: Seen) -> Iterator[Sent]:
+    """The same of a job that was observed."""
+    blocks = [*(block.name.text for block in text.blocks), "outside"]
+    for step in seen.steps:
+        if isinstance(step, Message):
+            names = step.kind.value, step.signal, blocks[step.source], blocks[step.target]
+            receiver = step.receiver.place if step.receiver else None
+            yield (*names, step.line, step.values, receiver)
+
+
+def of_flows(flows: Any, text: Text, signals: bytes, limit: int, count: int) -> Iterator[str]:
+    """What the jobs of a run sent, by a run that observes each statement."""
+    machine = Observed(text, lines_of(text, signals), limit, range(1, limit + 1))
+    for _ in machine.jobs():
+        pass
+    if len(flows["jobs"]) != count or len(machine.seen) != count:
+        yield f"{len(flows['jobs'])} jobs have a flow, {len(machine.seen)} are seen, of {count}"
+        return
+    for place, seen in enumerate(machine.seen):
+        got, wanted = list(flow_of(flows, place)), list(observed_flow(text, seen))
+        left = len(wanted) - len(got) + seen.left_out
+        if got != wanted[: len(got)] or flows["left_out"].get(str(place), 0) != left:
+            yield f"job {place + 1} sent {got} and not {wanted}; {left} are left out"
+
+
+def arrows_of(name: str, signals: bytes, forlopp: int) -> List[List[Optional[str]]]:
+    """The arrows that plex-chart draws of a forlopp: the style, the lanes and the label of each;
+    None stands for outside, and nothing for the lane of one that begins a job another has sent.
+    """
+    text = Text(name, pathlib.Path(name).read_bytes())
+    lines = lines_of(text, signals)
+    run = Machine(Program(text), lines, JOBS)
+    numbers = [job.place for job in run.jobs() if job.forlopp == forlopp]
+    machine = Observed(text, lines, JOBS, numbers)
+    jobs = sum(1 for _ in machine.jobs())
+    chosen = Chosen(numbers, 0, False, (), jobs, machine.ending)
+    made = chart.Maker(machine, chosen, chart.Look(lines=False, values=False)).chart(name)
+    lanes = [None, *made.lanes[1:]]
+    return [
+        [
+            row.style.value,
+            "" if row.source is None else lanes[row.source],
+            lanes[row.target],
+            chart.plain(row.label),
+        ]
+        for row in made.rows
+        if isinstance(row, chart.Arrow) and row.job
+    ]
+
+
 def of_waits(play: Any, boxes: List[Drawn], facts: Facts) -> Iterator[str]:
     """Each wait begins where the window was begun or a job ended, and ends where one ended; one for
     a pair tells a reason of that pair.
@@ -236,13 +307,18 @@ def of_reason(wait: Any, facts: Facts) -> Iterator[str]:
         yield f"a wait for {wait['reason']}: pair {wait['pair']}, letter {wait['kind']!r}"
 
 
+def data_of(page: str) -> Any:
+    """The data of a page, or None where it has none."""
+    found = DATA.search(page)
+    return json.loads(found[1]) if found else None
+
+
 def differences(page: str, content: bytes, made: Play) -> Iterator[str]:
     """What of a page is otherwise than the exchange text and the play of its load have it."""
-    found = DATA.search(page)
-    if not found:
+    data, facts = data_of(page), Facts(content)
+    if not data:
         yield "it has no data"
         return
-    data, facts = json.loads(found[1]), Facts(content)
     lines = oracle_why.signal_lines(content)
     facts.exchange.lines = lines
     yield from of_entries(data, facts)
@@ -274,4 +350,8 @@ def read_back(page: pathlib.Path, exchange: pathlib.Path, signals: pathlib.Path)
     told = Exchange(str(exchange))
     load = jobs_of(told, str(signals), JOBS)
     made = play(load, Rules(told.conflicts), WORKERS, keep_bars=True)
-    return list(differences(page.read_text(), exchange.read_bytes(), made))
+    text, sent = page.read_text(), signals.read_bytes()
+    found = DATA.search(text)
+    flows = json.loads(found[1])["play"]["flows"] if found else None
+    wrong = of_flows(flows, told.text, sent, JOBS, len(made.bars)) if flows else ["it has no flows"]
+    return [*differences(text, exchange.read_bytes(), made), *wrong]

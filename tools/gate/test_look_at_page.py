@@ -14,6 +14,7 @@ The data and the boxes of some pages are read back without a browser, as page_te
 """
 from __future__ import annotations
 
+import itertools
 import pathlib
 import shutil
 import subprocess
@@ -31,6 +32,7 @@ from measure import measured
 BROWSER = pytest.mark.xdist_group("browser")
 
 GUIDE = EXAMPLES / "guide" / "which_change"
+SWITCH, CALLED = EXAMPLES / "switch", 47  # an exchange, and a bar of the forlopp of its wrong call
 PICTURES = ROOT / "docs" / "pictures"
 Size = tuple[int, int, bool]
 SIZES: Sequence[Size] = ((1400, 900, False), (1400, 900, True), (420, 800, False), (420, 800, True))
@@ -38,15 +40,18 @@ SECONDS, BYTES, TRIES = 2.0, 20_000_000, 3
 # So many entries that use so many variables, the bytes of their page, and how many reasons of a
 # pair are drawn at once.
 COMMON, COMMON_BYTES, MANY, AT_ONCE = (128, 100), 1_000_000, (2, 150), 100
-LEAST, TESTS, LEAST_WIDE = 138, 9, 8  # looks, the tests that have them, and those of a wide page
+LEAST, TESTS, LEAST_WIDE = 160, 10, 8  # looks, the tests that have them, and those of a wide page
 LONGEST = 300  # seconds of one call
 STRANGE_NAME = "a <b> & \"c' .plex"
 STRANGE = b"""! </script><script>document.title = 'taken'</script> <img src=x onerror="alert(1)"> \xff\xfe & &amp;
+! \x1b[2J\x1b]0;x\x07\x9b " ' LONG
 SIGNAL TICK SINGLE BUFFERED B DATA 0;
 BLOCK K; DECLARE; VARIABLE N WIDTH 32; SURVEY; RECEIVE TICK; PROGRAM;
 ENTER TICK; N = N + 1; EXIT; ! <i>here</i>
 END BLOCK;
-"""  # noqa: E501
+""".replace(  # noqa: E501
+    b"LONG", b"y" * 4096
+)
 TOLD = "document.getElementById('told').innerText"
 LINES = "Array.from(document.querySelectorAll('{}')).map((e) => Number(e.id.slice(1)))"
 # The bars of the drawing with the part of the time that is in view, and where bars begin and end.
@@ -70,6 +75,19 @@ IN_TEXT = """(() => { const box = document.getElementById("lines").getBoundingCl
 UNCUT = (
     "Array.from(document.querySelectorAll('.plain')).every((e) => e.scrollWidth <= e.clientWidth)"
 )
+FLOW = (
+    "Array.from(document.querySelectorAll('.flow a[data-row]')).map("
+    "(e) => JSON.parse(e.dataset.row))"
+)
+DASHED = (
+    "Array.from(document.querySelectorAll('.flow .arrow')).filter("
+    "(e) => getComputedStyle(e).strokeDasharray !== 'none').length"
+)
+WITHIN = """(() => { const svg = document.querySelector("svg.drawing").getBoundingClientRect();
+  return Array.from(document.querySelectorAll("svg.drawing text")).every((one) => {
+    const box = one.getBoundingClientRect();
+    return box.right <= svg.right && box.left >= svg.left; });
+})()"""
 LIT = LINES.format("#lines .first, #lines .later, #lines .both")
 
 
@@ -219,6 +237,7 @@ class Look:
                     abs(left - wanted) < 0.1 and abs(width - max(1.5, last - wanted - 0.5)) < 0.1,
                     f"bar {number} is at {left}, {width} wide, and not at {wanted} to {last}",
                 )
+            self.need(self.window.value(WITHIN), f"key {key}: a text of the time line is cut")
         self.need(told["until"] - told["since"] < told["to"][-1] / 2, "+ does not zoom")
 
     def searched(self) -> None:
@@ -238,6 +257,19 @@ class Look:
         self.need(self.window.value(IN_TEXT), f"{size}: the text does not go to the statements")
         if size[0] >= 1400:
             self.need(self.window.value(UNCUT), f"{size}: a table is cut")
+
+    def call_flow(self) -> None:
+        """The call flow of a forlopp has the arrows of plex-chart, and answers are dashed."""
+        exchange, signals = SWITCH / "exchange.plex", SWITCH / "wrong_call" / "signals.txt"
+        self.window.open(self.page(exchange, signals, "switch.html") + f"#bar={CALLED}")
+        drawn = self.window.value(FLOW)
+        wanted = page_text.arrows_of(str(exchange), signals.read_bytes(), 1)
+        self.need(len(wanted) > 20, f"the forlopp has {len(wanted)} arrows")
+        for one, other in itertools.zip_longest(drawn, wanted):
+            self.need(one == other, f"the call flow has {one} and not {other}")
+        dashed = self.window.value(DASHED)
+        answers = sum(row[0] == "answer" for row in wanted)
+        self.need(dashed == answers > 0, f"{dashed} arrows are dashed, of {answers} answers")
 
     def entry(self) -> None:
         """A click at an entry."""
@@ -312,6 +344,15 @@ class Look:
         self.need(
             self.window.value("document.getElementById('L1').textContent") == first,
             "the first line is not as it is",
+        )
+        second = self.window.value("document.getElementById('L2').textContent")
+        self.need(
+            second.startswith("! \x1b[2J") and second.endswith("yy .."),
+            f"line 2 is {second[:20]!r}",
+        )
+        self.need(
+            self.window.value("document.documentElement.scrollWidth <= window.innerWidth"),
+            "a long line makes the page wider than the window",
         )
         self.need(
             self.window.value(
@@ -475,6 +516,14 @@ def test_strange(look: Look) -> None:
 
 @pytest.mark.counted(TESTS)
 @BROWSER
+def test_call_flow(look: Look) -> None:
+    """The call flow of a forlopp, beside that of plex-chart."""
+    look.call_flow()
+    look.done()
+
+
+@pytest.mark.counted(TESTS)
+@BROWSER
 def test_many_conflicts(look: Look) -> None:
     """Pages of pairs with many conflicts."""
     look.small()
@@ -506,6 +555,18 @@ def test_read_back(plex: pathlib.Path, folder: pathlib.Path) -> None:
 def test_read_back_made(plex: pathlib.Path, folder: pathlib.Path, seed: str, number: int) -> None:
     """So has one of an exchange made by chance."""
     compare_page(folder, page_text.made_case(folder, seed, number))
+
+
+def test_options(plex: pathlib.Path, folder: pathlib.Path) -> None:
+    """The time line is that of so many workers and jobs, and no input is lost."""
+    page, files = folder / "page.html", (GUIDE / "exchange.plex", GUIDE / "signals.txt")
+    check(wrong_page(page, *files, "--workers", "2", "--jobs", "5"))
+    play = page_text.data_of(page.read_text())["play"]
+    assert (play["workers"], play["jobs"]) == (2, 5)
+    copy = folder / "E"
+    shutil.copyfile(files[0], copy)
+    assert "would be lost" in str(wrong_page(copy, copy, files[1]))
+    assert copy.read_bytes() == files[0].read_bytes()
 
 
 @BROWSER

@@ -9,10 +9,11 @@ import os
 
 from plextools import limits, programs, tables
 from plextools.commands import outputs
+from plextools.commands.command_words import described
 from plextools.runs import jobs
 from plextools.runs import play
 from plextools.runs import report
-from plextools.show import page_html
+from plextools.show import page_data, page_html
 from plextools.analysis import why
 
 USUAL, CHOSEN = (1, 2, 4, 8, 16, 64), 4
@@ -27,15 +28,16 @@ def main() -> int:
     words.add_argument("-o", dest="page", required=True)
     words.add_argument("--workers", type=programs.number_to(most_workers), default=CHOSEN)
     words.add_argument("--jobs", type=programs.number_to(most_jobs), default=limits.USUAL_JOBS)
-    given = words.parse_args()
+    given = described(words).parse_args()
     inputs = [name for name in (given.exchange, given.signals) if name]
     outputs.refuse_inputs(given.page, inputs)
     exchange = why.Exchange(given.exchange)
-    figures = made = None
+    figures = made = flows = None
     if given.signals:
-        load = jobs.jobs_of(exchange, given.signals, given.jobs)
+        load = jobs.jobs_of(exchange, given.signals, given.jobs, flows=page_data.MOST_BARS)
+        flows = load.flows
         figures = report.figures(exchange, load, USUAL, given.workers)
         made = play.play(load, play.Rules(exchange.conflicts), given.workers, keep_bars=True)
     title = " with ".join(tables.quoted(os.path.basename(name)) for name in inputs)
-    outputs.write(given.page, page_html.Page(exchange, title, figures, made).parts())
+    outputs.write(given.page, page_html.Page(exchange, title, figures, made, flows).parts())
     return 0

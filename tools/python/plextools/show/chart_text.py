@@ -5,7 +5,7 @@ from typing import Dict, Iterator, List, NamedTuple, Optional
 
 from plextools.show.chart import Arrow, Chart, Life, Mark, Note, Row, Style, Tone, plain, wrapped
 
-LEAST, MOST, MARGIN, STUB = 14, 46, 4, 3
+NARROW, LEAST, MOST, MARGIN, STUB = 9, 14, 46, 4, 3
 # So many lines behind the names of the lanes, these stand there again; and at the end.
 HEADS_AGAIN, FEW = 40, 10
 COLOURS = ("", "36", "33", "35", "32", "34")
@@ -95,10 +95,13 @@ class Drawing:
         self.since = 0
 
     def best_step(self) -> int:
-        """How far lanes stand apart: as far as their texts need it, where the width allows that."""
+        """How far lanes stand apart: as far as their texts need it, where the width allows that;
+        where it does not even allow narrow lanes, the chart is wider.
+        """
         wanted = max((len(text) for text in self.texts()), default=0) + 6
         fitting = (self.width - self.first) // len(self.chart.lanes)
-        return max(LEAST, min(wanted, fitting, MOST))
+        least = min(LEAST, fitting) if fitting >= NARROW else LEAST
+        return max(least, min(wanted, fitting, MOST))
 
     def texts(self) -> Iterator[str]:
         for row in self.chart.rows:

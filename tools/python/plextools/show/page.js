@@ -255,12 +255,12 @@
     }
     lightRanges(entry.reach);
     timeLine.mark("bar", k);
-    return [make("h2", "", "Job " + bar.job + ": " + entry.name), list, ...(bar.forlopp ? callFlow(k) : [])];
+    return [make("h2", "", "Job " + bar.job + ": " + entry.name), list, ...callFlow(k)];
   }
 
-  // the call flow of a forlopp
+  // the call flow of a forlopp, or of a job that is in none
 
-  const flowMost = 60, flowRow = 22, flowColumn = 92;
+  const flowMost = 60, rowsMost = 240, flowRow = 22, flowColumn = 92, flowLeft = 62, flowTop = 26;
 
   function draw(name, attributes, ...content) {
     const element = document.createElementNS(space, name);
@@ -269,42 +269,116 @@
     return element;
   }
 
-  // Jobs of the forlopp of a bar, around it: a line for each block, and an arrow for each signal that starts a job.
-  function callFlow(k) {
-    const forlopp = data.play.bars.forlopp[k];
-    const every = those(data.play.bars.forlopp, forlopp);
-    const first = Math.max(0, Math.min(every.indexOf(k) - flowMost / 2, every.length - flowMost));
-    const jobs = every.slice(first, first + flowMost);
-    const blockOf = (place) => entryNames[data.play.bars.entry[place]].split(" ")[1];
-    const senders = jobs.map((place) => data.play.bars.sender[place]);
-    const sources = senders.map((sender) => sender === null ? "outside" : blockOf(sender - 1));
-    const lanes = [...new Set(["outside", ...sources, ...jobs.map(blockOf)])];
-    const at = (lane) => 62 + lanes.indexOf(lane) * flowColumn;
-    const high = 26 + flowRow * jobs.length, wide = at(lanes[lanes.length - 1]) + 50;
-    const svg = draw("svg", {class: "flow", width: wide, height: high, role: "group", "aria-label": "call flow"});
-    for (const lane of lanes) {
-      svg.append(draw("text", {x: at(lane), y: 12, "text-anchor": "middle"}, lane.slice(0, 13)));
-      svg.append(draw("path", {class: "lane", d: "M" + at(lane) + ",18 V" + high}));
-    }
-    jobs.forEach((place, row) => svg.append(flowArrow(place, at(sources[row]), at(blockOf(place)), 26 + flowRow * row,
-      place === k)));
-    const told = jobs.length < every.length ? " (" + jobs.length + " of " + every.length + " jobs)" : "";
-    return [make("h3", "", "Call flow of forlopp " + forlopp + told), make("div", "flows", svg)];
+  function blockOf(place) {
+    return entryNames[data.play.bars.entry[place]].split(" ")[1];
   }
 
-  function flowArrow(place, from, to, y, isChosen) {
+  // The rows of a job: one that begins it, and one for each signal that it sent. A row goes from lane to lane, where
+  // null is outside, or from nowhere where a job sent the signal by which this one began.
+  function flowRows(place) {
     const bar = barOf(place);
-    const label = [entryNames[bar.entry].split(" ")[0], ...bar.values].join(" ");
-    const link = draw("a", {href: "#bar=" + place, class: isChosen ? "chosen" : ""});
-    const side = to < from ? 1 : -1, tip = to + 7 * side;
-    const path = from === to ? "M" + from + "," + y + " h16 v8 H" + (to + 7) : "M" + from + "," + (y + 8) + " H" + tip;
-    const head = from === to ? 1 : side;
-    link.append(draw("text", {x: 2, y: y + 11, class: "soft"}, String(bar.job)));
-    link.append(draw("path", {class: "arrow", d: path}));
-    link.append(draw("path", {class: "head", d: "M" + to + "," + (y + 8) + " l" + 8 * head + ",-4 v8 z"}));
-    const x = from === to ? from + 20 : Math.min(from, to) + 6;
-    link.append(draw("text", {x: x, y: y + 4}, label.slice(0, 24) + (bar.fault ? " ✗ " + bar.fault : "")));
+    const begun = [entryNames[bar.entry].split(" ")[0], ...bar.values].join(" ");
+    const sender = bar.line ? "" : " (from job " + bar.sender + ")";
+    const rows = [{place: place, begins: true, kind: "signal", from: bar.line ? null : undefined, to: blockOf(place),
+      label: begun + sender}];
+    const flows = data.play.flows;
+    if (flows && place < flows.jobs.length) {
+      const receivers = flows.receivers[place].slice();
+      for (const number of flows.lists[flows.jobs[place]]) rows.push(signalRow(place, flows, number, receivers));
+      const left = flows.left_out[place];
+      if (left) rows.push({place: place, note: left + " more signals of this job", at: blockOf(place)});
+    }
+    if (bar.fault) rows.push({place: place, note: "✗ fault " + bar.fault, at: blockOf(place)});
+    return rows;
+  }
+
+  function signalRow(place, flows, number, receivers) {
+    const [kind, name, source, target, line, ...values] = flows.signals[number];
+    const told = flows.words[kind];
+    const row = {place: place, line: line, from: flows.words[source], to: target < 0 ? null : flows.words[target],
+      label: [flows.words[name], ...values].join(" "),
+      kind: told === "answer" ? "answer" : told === "direct" || told === "combined" ? "call" : "signal"};
+    if (told === "buffered") row.label += " (" + receiverOf(place, receivers.shift()) + ")";
+    return row;
+  }
+
+  function receiverOf(place, receiver) {
+    if (!receiver) return "to no job that ran";
+    const forlopps = data.play.bars.forlopp, forlopp = forlopps[receiver - 1];
+    const fresh = forlopp === undefined || forlopp === forlopps[place] ? "" : ", new F" + forlopp;
+    return "to job " + receiver + fresh;
+  }
+
+  // The jobs of a list around one of them, as many as have room, with their rows.
+  function flowAround(every, k) {
+    const at = every.indexOf(k), shown = [k];
+    let count = flowRows(k).length;
+    for (let before = at - 1, behind = at + 1; shown.length < flowMost && (before >= 0 || behind < every.length);) {
+      for (const place of [every[before--], every[behind++]]) {
+        if (place === undefined) continue;
+        count += flowRows(place).length;
+        if (count > rowsMost) return shown.sort((one, other) => one - other);
+        shown.push(place);
+      }
+    }
+    return shown.sort((one, other) => one - other);
+  }
+
+  // A line for each block, and an arrow for each signal: those that start jobs, those inside a job, and answers.
+  function callFlow(k) {
+    const forlopp = data.play.bars.forlopp[k];
+    const every = forlopp ? those(data.play.bars.forlopp, forlopp) : [k];
+    const jobs = flowAround(every, k);
+    const rows = [].concat(...jobs.map(flowRows));
+    const named = rows.flatMap((row) => row.note ? [row.at] : [row.from, row.to]);
+    const lanes = [...new Set([null, ...named.filter((lane) => lane !== undefined)])];
+    const at = (lane) => flowLeft + lanes.indexOf(lane) * flowColumn;
+    const high = flowTop + flowRow * rows.length, wide = at(lanes[lanes.length - 1]) + flowColumn;
+    const svg = draw("svg", {class: "flow", width: wide, height: high, role: "group", "aria-label": "call flow"});
+    for (const lane of lanes) {
+      svg.append(draw("text", {x: at(lane), y: 12, "text-anchor": "middle"}, (lane || "outside").slice(0, 13)));
+      svg.append(draw("path", {class: "lane", d: "M" + at(lane) + ",18 V" + high}));
+    }
+    rows.forEach((row, number) => svg.append(flowLine(row, at, flowTop + flowRow * number, row.place === k)));
+    const told = jobs.length < every.length ? " (" + jobs.length + " of " + every.length + " jobs)" : "";
+    const name = forlopp ? "forlopp " + forlopp + told : "job " + (k + 1);
+    return [make("h3", "", "Call flow of " + name), make("div", "flows", svg), make("p", "soft", flowKey())];
+  }
+
+  function flowKey() {
+    if (!data.play.flows) return "Signals inside jobs are not told of so large a load.";
+    return "An open head is a signal that starts a job or leaves the exchange, a filled one a signal inside a job, and " +
+      "a dashed arrow an answer.";
+  }
+
+  // A row: what begins a job, and what is said of one, leads to the job, and a signal to its statement.
+  function flowLine(row, at, y, isChosen) {
+    const href = row.line ? "#L" + row.line : "#bar=" + row.place;
+    const link = draw("a", {href: href, class: isChosen ? "chosen" : ""});
+    if (row.note) {
+      link.append(draw("text", {x: at(row.at) + 8, y: y + 11, class: "note"}, row.note));
+      return link;
+    }
+    const label = row.label + (row.line ? " :" + row.line : "");
+    if (row.begins) link.append(draw("text", {x: 2, y: y + 11, class: "soft"}, String(row.place + 1)));
+    link.append(...flowArrow(row.kind, row.from === undefined ? at(row.to) - 22 : at(row.from), at(row.to), y + 8));
+    const ends = row.from === undefined || row.from === row.to ? [at(row.to)] : [at(row.from), at(row.to)];
+    const text = draw("text", {x: Math.min(...ends) + (row.from === row.to ? 24 : 6), y: y + 4}, label);
+    link.append(text);
+    const from = row.from === undefined ? "" : row.from;
+    link.dataset.row = JSON.stringify([row.kind, from, row.to, row.label]);
     return link;
+  }
+
+  function flowArrow(kind, from, to, y) {
+    const head = to < from || from === to ? 1 : -1;
+    const begin = "M" + from + ",";
+    const path = from === to ? begin + (y - 8) + " h16 v8 H" + (to + 2) : begin + y + " H" + (to + 2 * head);
+    const tip = "M" + (to + 8 * head) + "," + (y - 4) + " L" + to + "," + y + " l" + 8 * head + ",4";
+    return [
+      draw("path", {class: "arrow " + kind, d: path}),
+      draw("path", {class: kind === "call" ? "head" : "head open", d: kind === "call" ? tip + " z" : tip}),
+    ];
   }
 
   function why(reason) {

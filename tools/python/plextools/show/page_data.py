@@ -7,7 +7,7 @@ are left out. Entries whose lines are the same are of one kind: a kind has its l
 reasons is that of all pairs of two kinds. `rows` has for each later entry the place of its list,
 and `pairs` for each first entry the place of its row. Lines and reasons name a side by its place
 among those of a kind, for which each entry has `sides` of its own. `of_play(made)` has the bars and
-the waits of a play.
+the waits of a play, and what its jobs sent.
 """
 from typing import (
     Dict,
@@ -26,6 +26,9 @@ from typing import (
 
 from plextools.analysis.lines import Entry
 from plextools.analysis.why import NOBODY, Exchange, Named, Pair, Side, verdict_words
+from plextools.runs.flows import Flows
+from plextools.runs.machine import Job
+from plextools.runs.observed import OUTSIDE
 from plextools.runs.play import SAME, Bar, Play, Wait, Waited
 
 MOST_STATEMENTS, MOST_BARS = 60, 100_000
@@ -89,6 +92,22 @@ class OfReason(TypedDict):
     kind: str
 
 
+class OfFlows(TypedDict):
+    """The signals that jobs sent, inside them and to others. A signal is its kind, its name and the
+    blocks from and to which it went as places in `words`, with -1 for outside, its line, and its
+    values. `lists` has places of signals, `jobs` for each job the place of its list, `left_out` how
+    many more signals a job sent, and `receivers` which jobs the buffered ones of each started, 0
+    for one that did not run.
+    """
+
+    words: List[str]
+    signals: List[List[int]]
+    lists: List[List[int]]
+    jobs: List[int]
+    left_out: Dict[int, int]
+    receivers: List[List[int]]
+
+
 class OfPlay(TypedDict):
     """What is drawn of a play. Of bars and waits each part is a list; the jobs of bars are numbered
     from 1 in their order. `files` are those that jobs held as they began, by the places in `held`.
@@ -99,6 +118,7 @@ class OfPlay(TypedDict):
     waits: OfWaits
     reasons: List[OfReason]
     files: List[List[str]]
+    flows: Optional[OfFlows]
     end: int
     jobs: int
 
@@ -295,7 +315,9 @@ def reason_words(reason: Waited) -> str:
     if isinstance(reason, str):
         return reason
     i, j, told, why = reason
-    return f"PAIR {i} {j}: {told}" if why is None else verdict_words(i, j, why)
+    if why is None:
+        return f"PAIR {i} {j}: {'SAME FORLOPP' if told == SAME else told}"
+    return verdict_words(i, j, why)
 
 
 def kind_of(reason: Waited) -> str:
@@ -305,8 +327,8 @@ def kind_of(reason: Waited) -> str:
     return reason.reason.kind[0] if reason.reason.is_conflict else "?"
 
 
-def of_play(made: Play) -> OfPlay:
-    """The first bars, each with its job, and the waits among them."""
+def of_play(made: Play, blocks: Sequence[str] = (), flows: Optional[Flows] = None) -> OfPlay:
+    """The first bars, each with its job, and the waits among them; and what the jobs sent."""
     bars = made.bars[:MOST_BARS]
     end = max((bar.end for bar in bars), default=0)
     place = {job.number: number for number, job in enumerate(made.order, 1)}
@@ -319,6 +341,7 @@ def of_play(made: Play) -> OfPlay:
         "waits": of_waits(waits, place, reasons),
         "reasons": [of_reason(reason) for reason in reasons.known],
         "files": [list(names) for names in files.known],
+        "flows": of_flows(flows, blocks, [bar.job for bar in bars], place) if flows else None,
         "end": end,
         "jobs": len(made.order),
     }
@@ -338,6 +361,36 @@ def of_bars(bars: Sequence[Bar], place: Dict[int, int], files: Numbers[Tuple[str
         "sender": [None if job.sender is None else place.get(job.sender) for job in jobs],
         "held": [files.of(job.held) for job in jobs],
         "fault": [job.fault for job in jobs],
+    }
+
+
+def of_flows(
+    flows: Flows, blocks: Sequence[str], jobs: Sequence[Job], place: Dict[int, int]
+) -> OfFlows:
+    """What jobs sent; `place` has the place of each job in the order of the run."""
+    words: Numbers[str] = Numbers()
+
+    def block(number: int) -> int:
+        return NONE if number == OUTSIDE else words.of(blocks[number])
+
+    signals = [
+        [
+            words.of(one.kind.value),
+            words.of(one.name),
+            block(one.source),
+            block(one.target),
+            one.line,
+            *one.values,
+        ]
+        for one in flows.signals
+    ]
+    return {
+        "words": list(words.known),
+        "signals": signals,
+        "lists": [list(told) for told in flows.lists],
+        "jobs": flows.of_jobs,
+        "left_out": flows.left_out,
+        "receivers": [[place.get(number, 0) for number in job.sent] for job in jobs],
     }
 
 

@@ -10,6 +10,7 @@ from typing import Container, Dict, Iterable, Iterator, List, Optional, Sequence
 from plextools import tables
 from plextools.analysis.why import Exchange
 from plextools.runs import report
+from plextools.runs.flows import Flows
 from plextools.runs.play import Play
 from plextools.show import page_data
 
@@ -113,7 +114,9 @@ def tag(name: str, text: str, more: str = "") -> str:
 
 
 class Page:
-    """A page; `figures` and `made` are those of the load and its play, or None."""
+    """A page; `figures`, `made` and `flows` are those of the load, its play, and what its jobs
+    sent, or None.
+    """
 
     def __init__(
         self,
@@ -121,11 +124,13 @@ class Page:
         title: str,
         figures: Optional[report.Figures] = None,
         made: Optional[Play] = None,
+        flows: Optional[Flows] = None,
     ) -> None:
         self.exchange, self.title, self.figures = exchange, title, figures
         self.analysis, self.text = exchange.analysis, exchange.text
         self.data = page_data.of_exchange(exchange)
-        self.data["play"] = page_data.of_play(made) if made else None
+        blocks = [block.name.text for block in self.text.blocks]
+        self.data["play"] = page_data.of_play(made, blocks, flows) if made else None
 
     def parts(self) -> Iterator[str]:
         """The page in parts."""

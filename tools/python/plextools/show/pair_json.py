@@ -1,20 +1,25 @@
-"""What `plex-why --json` writes of a pair: its entries, and each conflict or test with the
-statements of both jobs and what helps. docs/FORMATS.md, Pairs as JSON, has the members.
+"""What `plex-why --json` writes of a pair: its entries, each conflict or test with the statements
+of both jobs and what helps, and the verdict with additions. docs/OUTPUTS.md, Pairs as JSON, has the
+members.
 """
 from typing import List, Optional, Sequence, TypedDict
 
+from plextools.analysis.additions import Additions
 from plextools.analysis.lines import Entry
 from plextools.analysis.reasons import Reason
 from plextools.analysis.why import Exchange, Pair, Told
 
 
 class OfEntry(TypedDict):
-    """An entry of a pair."""
+    """An entry of a pair. `adds` are the variables and fields to which its jobs only add, as the
+    lines ADDS have them.
+    """
 
     entry: int
     signal: str
     block: str
     level: str
+    adds: List[str]
 
 
 class OfStatement(TypedDict):
@@ -40,7 +45,8 @@ class OfReason(TypedDict):
 
 class OfPair(TypedDict):
     """A pair, with its verdict: NEVER, IF or ALWAYS. `behind` are the conflicts, or else the tests,
-    that are left where counters keep nothing apart.
+    that are left where counters keep nothing apart; `adding` is what the lines ADDING tell, where
+    the verdict is another one then.
     """
 
     first: OfEntry
@@ -48,17 +54,20 @@ class OfPair(TypedDict):
     verdict: str
     reasons: List[OfReason]
     behind: List[str]
+    adding: List[str]
 
 
 def of_pair(exchange: Exchange, i: int, j: int) -> OfPair:
     exchange.look_at({i, j})
     pair, reasons = Pair(exchange, i, j), exchange.conflicts.reasons(i, j)
+    additions = exchange.conflicts.additions
     return {
-        "first": of_entry(pair.first),
-        "later": of_entry(pair.later),
+        "first": of_entry(pair.first, additions),
+        "later": of_entry(pair.later, additions),
         "verdict": verdict_of(reasons),
         "reasons": [of_reason(pair, reason) for reason in reasons],
         "behind": exchange.counters.behind(i, j),
+        "adding": additions.adding.get((i, j), []),
     }
 
 
@@ -68,12 +77,13 @@ def verdict_of(reasons: Sequence[Reason]) -> str:
     return "NEVER" if reasons[0].is_conflict else "IF"
 
 
-def of_entry(entry: Entry) -> OfEntry:
+def of_entry(entry: Entry, additions: Additions) -> OfEntry:
     return {
         "entry": entry.number,
         "signal": entry.signal,
         "block": entry.block,
         "level": entry.level,
+        "adds": additions.adds.get(entry.number, []),
     }
 
 

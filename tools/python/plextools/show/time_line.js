@@ -6,7 +6,7 @@ function TimeLine(place, play, names, choose) {
   const colours = ["#e69f00", "#56b4e9", "#009e73", "#f0e442", "#0072b2", "#d55e00", "#cc79a7", "#999999"];
   const dark = [4];  // the colours on which letters are white
   const space = document.querySelector("#drawn svg").namespaceURI;
-  const left = 74, right = 8, most = 700, leastPiece = 4, mostBoxes = 4000, least = 14;
+  const left = 74, right = 8, most = 700, leastPiece = 4, mostBoxes = 4000, least = 14, letterWidth = 7.5;
   const {bars, waits} = play;
   const count = bars.entry.length;
   const rows = [];
@@ -171,7 +171,8 @@ function TimeLine(place, play, names, choose) {
     for (let time = Math.ceil(view.from / step) * step; time <= view.to; time += step) {
       const at = x(time);
       part.push(draw("path", {class: "grid", d: "M" + at.toFixed(1) + ",0 v" + (y - 2)}));
-      if (at < width() - 40) part.push(draw("text", {x: at.toFixed(1), y: y + 11}, time.toLocaleString("en")));
+      const told = time.toLocaleString("en");
+      if (at + letterWidth * told.length < width()) part.push(draw("text", {x: at.toFixed(1), y: y + 11}, told));
     }
     return part;
   }
