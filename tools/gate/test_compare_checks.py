@@ -32,11 +32,13 @@ from gate.test_broken_texts import TEXTS as BROKEN_TEXTS
 from gate.test_sentences import TEXTS as SENTENCES
 from plextools.commands import check as plex_check
 from plextools.text import tokens
+from plextools.text.explanations import explanations
 from plextools.text.warnings import WARNINGS, Oddities
 
 WAYS = set(
     "UNREACHED RUNSINTO ENDLESS TOOWIDE NORECORD BYZERO CONSTANT NOTURN NEVERREAD LOST".split()
 )
+OF_FILES = {"NOJOB"}  # of a filter, of which check_rows.py has rows
 CHECK = TOOLS / "bin" / "plex-check"
 LONGEST, GATE = 300, 200
 TOLD = ("SOURCE", "SIGNALS", "TABLE", "FILTER")
@@ -486,6 +488,17 @@ def test_no_false_warning_of_ways() -> None:
 @pytest.mark.parametrize("row", warning_rows.ROWS, ids=lambda row: str(row.name))
 def test_warning_row(folder: pathlib.Path, row: warning_rows.Row) -> None:
     """What is odd in a text is told."""
+    check(warning_rows.wrong(row, folder))
+
+
+@pytest.mark.parametrize("word", [word for word in WARNINGS if word not in OF_FILES])
+def test_word_of_warning(folder: pathlib.Path, word: str) -> None:
+    """Each word of a warning is told by a row, is left out by --no, and is explained."""
+    rows = [row for row in warning_rows.ROWS if any(f": {word}: " in line for line in row.lines)]
+    assert rows and word in explanations()
+    left = [line for line in rows[0].lines if f": {word}: " not in line]
+    status = warning_rows.ODD if left else warning_rows.FINE
+    row = rows[0]._replace(words=("--no", word), lines=left, status=status, left_out="")
     check(warning_rows.wrong(row, folder))
 
 

@@ -16,6 +16,7 @@ from gate import harness
 from gate.checking import Tally, check, check_enough
 from gate.makers import made_text
 
+GATE = 300
 PURPOSES, LONGEST_SHOWN = 45, 10000
 NAMES = [f"{rule or 'right'}-{place}" for place, (rule, _) in enumerate(made_text.ON_PURPOSE)]
 
@@ -49,7 +50,7 @@ def test_on_purpose(plex: pathlib.Path, folder: pathlib.Path, seed: str, place: 
     assert compare(plex, folder, text) == (rule or "right")
 
 
-@pytest.mark.by_chance(300)
+@pytest.mark.by_chance(GATE)
 def test_by_chance(
     plex: pathlib.Path, folder: pathlib.Path, seed: str, tally: Tally, number: int
 ) -> None:

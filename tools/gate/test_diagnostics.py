@@ -4,6 +4,7 @@ Each folder of cases/diagnostics has a text, maybe other files, and `long.txt`, 
 --long writes of it. A folder with a file `mended` has one cure of each fault: where the cures are
 made, one after the other, plex-check finds no fault any more.
 """
+import importlib.util
 import json
 import os
 import pathlib
@@ -12,12 +13,14 @@ import re
 import subprocess
 import sys
 import threading
-from typing import Any, Dict, List, Sequence, Tuple
+from typing import Any, Dict, List, Sequence, Set, Tuple
 
 import jsonschema  # type: ignore[import]
 import pytest
+from attr import NOTHING
 
 from gate import harness
+from gate.checking import leave_out
 from gate.test_broken_texts import TEXTS as BROKEN_TEXTS
 from gate.test_sentences import TEXTS as SENTENCES
 from plextools.commands import check
@@ -147,6 +150,47 @@ def span_of(record: Dict[str, Any]) -> Tuple[int, ...]:
     return record["line"], record["column"], end["line"], end["column"]
 
 
+DEFINITIONS = {"sarifLog": SCHEMA, **SCHEMA["definitions"]}
+
+
+@pytest.mark.parametrize("name", DEFINITIONS)
+def test_schema(name: str) -> None:
+    """The schema, which is a part of that of SARIF, has the properties of Debian's model of it: no
+    other one, and all that must be there.
+    """
+    if importlib.util.find_spec("sarif_om") is None:
+        leave_out("there is no python3-sarif-python-om")
+    model = importlib.import_module("sarif_om")
+    fields = getattr(model, name[0].upper() + name[1:]).__attrs_attrs__
+    known = {field.metadata["schema_property_name"] for field in fields}
+    needed = {one.metadata["schema_property_name"] for one in fields if one.default is NOTHING}
+    assert DEFINITIONS[name]["additionalProperties"] is False
+    assert set(DEFINITIONS[name]["properties"]) <= known
+    assert needed <= set(DEFINITIONS[name]["required"])
+
+
+def test_schema_is_used(monkeypatch: pytest.MonkeyPatch) -> None:
+    """The schema has nothing that plex-check never writes."""
+    found: Set[Tuple[str, str]] = set()
+    for folder in FOLDERS:
+        note_properties(json.loads(written(monkeypatch, folder, "--sarif")), "sarifLog", found)
+    known = {(name, key) for name, one in DEFINITIONS.items() for key in one["properties"]}
+    assert found == known
+
+
+def note_properties(value: object, name: str, found: Set[Tuple[str, str]]) -> None:
+    """Notes the properties of an object of the schema, and of those in it."""
+    if isinstance(value, list):
+        for one in value:
+            note_properties(one, name, found)
+    elif isinstance(value, dict):
+        for key, one in value.items():
+            found.add((name, key))
+            told = DEFINITIONS[name]["properties"][key]
+            inner = told.get("$ref") or told.get("items", {}).get("$ref", "")
+            note_properties(one, inner.rpartition("/")[2], found)
+
+
 @pytest.mark.parametrize(
     "folder",
     [folder for folder in FOLDERS if (folder / "mended").is_file()],
@@ -214,7 +258,7 @@ def test_no_habit_in_right_texts(path: pathlib.Path) -> None:
 
 
 def test_how_it_is_said_here(plex: pathlib.Path, tmp_path: pathlib.Path) -> None:
-    """The forms of the table in docs/GUIDE.md, part 9, that are no cure of a case are right."""
+    """The forms of the table in docs/GUIDE.md, part 6, that are no cure of a case are right."""
     text = """SIGNAL TICK SINGLE BUFFERED B DATA 2;
 BLOCK K; DECLARE; VARIABLE S WIDTH 1; VARIABLE B WIDTH 8 INIT 5; TEMPORARY P; TEMPORARY T;
 FILE F SIZE 8; FIELD A WIDTH 16; SURVEY; RECEIVE TICK; PROGRAM; ENTER TICK WITH P, T;

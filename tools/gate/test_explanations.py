@@ -156,9 +156,10 @@ def test_written(written: str) -> None:
 
 def test_completion() -> None:
     """Completion offers the words that --explain and --no take."""
-    place = harness.ROOT / "tools" / "maintain" / "completions" / "plex-check.bash"
-    script = f". {place}; _plex_check_explained; COMP_WORDS=(plex-check --no ''); COMP_CWORD=2"
-    script += "; echo; _plex_check; echo ${COMPREPLY[@]}"
+    place = harness.ROOT / "tools" / "maintain" / "completions" / "plex-tools.bash"
+    script = f". {place}; COMP_CWORD=2"
+    for word in ("explain", "no"):
+        script += f"; COMP_WORDS=(plex-check --{word} ''); _plex_check; echo ${{COMPREPLY[@]}}"
     done = subprocess.run(
         ["bash", "-c", script], capture_output=True, text=True, check=True, timeout=SOON
     )

@@ -35,6 +35,9 @@ TONES = (
     .replace("RECEIVE ASK;", "RECEIVE ASK; SEND R; SEND Q;")
     .replace("FREE T IN F;\nL)", "FREE T IN F; IF N = 0 GOTO L;\nSEND R;\nL)\nSEND Q;")
 )
+SEARCH = TEXT.replace(
+    "FIELD X WIDTH 8;", "FIELD X WIDTH 8; FILE H SIZE 2; FIELD Y WIDTH 8;"
+).replace("FREE T IN F;", "FREE T IN F; FOR FIRST T IN H WHERE Y > 254 GOTO L;")
 FINE, ODD = 0, 1
 
 
@@ -223,6 +226,13 @@ ROWS = [
         "9:11: NOTURN: the loop has no turn: it goes from 3 up to 2",
     ),
     fine("a loop of one turn", "X(T) = N;", "X(T) = N; ON T FROM 2 UPTO 2 DO NO;"),
+    Row(
+        "a search that finds nothing",
+        SEARCH.replace("254", "255"),
+        ODD,
+        ["E:10:37: CONSTANT: the relation of Y is never true"],
+    ),
+    Row("a search", SEARCH, FINE),
     odd(
         "a value that nothing reads",
         "FREE T IN F;",
@@ -241,6 +251,7 @@ ROWS = [
         "X(T) = N;",
         "IF N = 0 THEN FREE T IN F; GOTO L; FI; X(T) = N;",
     ),
+    fine("a record whose number is handed on", "X(T) = N;", "X(T) = T; IF N = 0 GOTO L;"),
     fine("a record whose number is kept", "X(T) = N;", "N = T; IF N = 0 GOTO L; X(T) = N;"),
     Row("all that is odd", MANY, ODD, UNUSED),
     Row("as many as there are", MANY, ODD, UNUSED, ("--most", "3")),

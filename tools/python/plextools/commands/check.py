@@ -7,20 +7,6 @@ is a filter. With --change it tells what a change of E to E2 keeps, drops, narro
 and why it is refused. On a terminal each fault comes with the line of the text, the places that
 matter and the cure; else each one is a line of the form FILE:LINE:COLUMN: WORD: sentence.
 
-Options:
-  --explain WORD  tells what a word means, with a wrong and a right example
-  --long          writes the form of a terminal, wherever the output goes
-  --short         writes a line for each fault, also on a terminal
-  --json          writes a record of JSON for each fault, each on a line
-  --sarif         writes a document of SARIF 2.1.0
-  --color WHEN    has colours in the long form: always, never, or auto, which is on a terminal
-                  where NO_COLOR is not set
-  --werror        ends with 1 where there are warnings and no faults
-  --no WORD       leaves the warnings or notes of this word out; WORD,WORD leaves several out
-  --most N        tells at most N faults or warnings of each word in a file; 1000 without it
-  --help          writes this text, and all words that --no takes
-  --version       writes the version
-
 The status is 0 where nothing is wrong, 1 where there are warnings alone and --werror asks for it,
 2 with faults, and 3 where a file cannot be read or the words are wrong. The words of faults are
 those of plex, and the first fault is the one that plex tells.
@@ -34,6 +20,7 @@ from enum import Enum
 from typing import Iterator, List, Mapping, NoReturn, Optional, Sequence, Set
 
 from plextools import VERSION
+from plextools.commands.command_words import BY_NAME, rows
 from plextools.limits import MOST_BYTES
 from plextools.show.long_form import LongForm, Style
 from plextools.show.records import Records
@@ -294,7 +281,8 @@ def check_change(report: Report, names: Sequence[str], datas: Sequence[bytes]) -
 
 def help_text() -> str:
     words = "".join(f"  {word:<15} {what}\n" for word, what in TO_SWITCH_OFF.items())
-    return f"{__doc__}\nWords that --no takes:\n{words}"
+    options = "".join(f"{row}\n" for row in rows(BY_NAME["plex-check"]))
+    return f"{__doc__}\nOptions:\n{options}\nWords that --no takes:\n{words}"
 
 
 def explained(word: str) -> List[str]:

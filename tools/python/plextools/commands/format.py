@@ -16,6 +16,7 @@ from typing import BinaryIO, Iterator, Sequence
 
 from plextools import programs
 from plextools.commands import outputs
+from plextools.commands.command_words import described
 from plextools.limits import MOST_BYTES
 from plextools.show.differences import unified
 from plextools.tables import quoted
@@ -34,14 +35,12 @@ def parser() -> argparse.ArgumentParser:
     words.add_argument(
         "--check",
         action="store_true",
-        help="names the files that have another layout, and rewrites none",
     )
     words.add_argument(
         "--diff",
         action="store_true",
-        help="tells what would change as unified diffs, and rewrites no file",
     )
-    return words
+    return described(words)
 
 
 def main() -> int:

@@ -10,8 +10,9 @@ from bisect import bisect_right
 from typing import Callable, Dict, List, Optional, Set, Tuple
 
 from plextools.limits import MOST_RECORDS, MOST_VALUES, MOST_WIDTH
+from plextools.text.closers import is_first, line_behind
 from plextools.text.faults import Block, Declared, Signal
-from plextools.text.finding import Advice, Edit, Note, Span
+from plextools.text.finding import SMALL_LETTERS, Advice, Edit, Note, Span
 from plextools.text.hints import near
 from plextools.text.tokens import KEYWORDS, TOKEN, value_of
 from plextools.text.warnings import Oddities, is_near_keyword, statement_in
@@ -25,8 +26,9 @@ POINTER = re.compile(r"([A-Z][A-Z0-9]*)\s*$")
 ASSIGNED = re.compile(r"[A-Z][A-Z0-9]*\s*(?:\(\s*[A-Z][A-Z0-9]*\s*\)\s*)?$")
 PHRASE_END = re.compile(r";|\b(?:THEN|DO|IS)\b")
 RELATION_END = re.compile(r"\s*(?:;|\b(?:AND|OR|THEN|GOTO)\b)")
-MOST_SEARCHED = 2**18
+MOST_SEARCHED, MOST_USES = 2**18, 1000
 OF_TEMPORARIES = ("ON", "FIRST", "SEIZE", "FREE")
+GIVEN = ("give", "value", "values")
 DECLARING = re.compile(r"\b(?:DECLARE|VARIABLE|TEMPORARY)\b")
 LABELS = {
     "BADBYTE": "no token begins here",
@@ -72,6 +74,7 @@ class Adviser:
         self.lines = checker.source.lines
         self.starts = [block.place for block in checker.blocks]
         self.as_temporary: Set[Tuple[int, str]] = set()
+        self.counts: Dict[str, List[int]] = {}  # of the values of the statements of signals
         for _, place, _, rule, _ in checker.found:
             if rule == "N6" and self.role(place) == "temporary":
                 self.as_temporary.add((self.block_at(place).number, self.name(place)))
@@ -166,8 +169,8 @@ class Adviser:
         span, meant = Span(found.start(), found.end()), found[0].upper()
         if "_" in meant:
             return self.of_mark(place)
-        cause = ("BADBYTE", found[0])
-        return Advice(span, "small letters", (), f"write {meant}", (Edit(*span, meant),), cause)
+        edits = (Edit(*span, meant),)
+        return Advice(span, "small letters", (), f"write {meant}", edits, SMALL_LETTERS)
 
     def word_start(self, place: int) -> int:
         while place and (self.text[place - 1].isalnum() or self.text[place - 1] == "_"):
@@ -209,12 +212,10 @@ class Adviser:
         """What edits do, in words."""
         if not edits:
             return ""
-        if len(edits) > 1:
-            return "leave the brackets out"
-        start, end, text = edits[0]
-        words = text.strip()
+        words = " and ".join(text.strip() for _, _, text in edits if text.strip())
         if not words:
-            return "leave it out"
+            return "leave the brackets out" if len(edits) > 1 else "leave it out"
+        start, end, _ = edits[0]
         if words == ";":
             return "end it by a semicolon"
         return f"add {words}" if start == end else f"write {words}"
@@ -417,8 +418,41 @@ class Adviser:
         phrase = self.phrase(place)
         given = self.values_in(self.clean[place : phrase.end])
         count = signal.count if signal else None
-        notes = self.of_signal(name)
-        return Advice(Span(place, phrase.end), f"{given} of {count}", notes)
+        plain = Advice(Span(place, phrase.end), f"{given} of {count}", self.of_signal(name))
+        if signal and self.is_always_given(name, given):
+            edits = self.declared_with(signal, given)
+            cure = f"declare it so: each statement of {name} has {given}"
+            return plain._replace(cure=cure, edits=edits, cause=("N11", name))
+        taken = self.name(place) in ("ENTER", "RETRIEVE")
+        verb, one, many = ("name", "temporary", "temporaries") if taken else GIVEN
+        cure = f"{verb} {count} {one if count == 1 else many} here, or declare {name} with"
+        cure += f" DATA {given}"
+        return plain._replace(cure=cure)
+
+    def is_always_given(self, name: str, given: int) -> bool:
+        """Whether several statements have a signal, and each has so many values."""
+        if name not in self.counts:
+            places = self.statements_of(name)
+            self.counts[name] = [
+                self.values_in(self.clean[at : self.phrase(at).end]) for at in places[:MOST_USES]
+            ]
+        counts = self.counts[name]
+        return len(counts) > 1 and set(counts) == {given} and given <= MOST_VALUES
+
+    def statements_of(self, name: str) -> List[int]:
+        """Where statements have a signal."""
+        places = [at for block in self.checker.blocks for at in block.enters.get(name, ())]
+        for block in self.checker.blocks:
+            for sending, some in block.sent.items():
+                places += some if sending.name == name else ()
+        answers = re.compile(rf"\b(?:RETRIEVE|RETURN)\s+{name}\b")
+        found = answers.finditer(self.clean, 0, MOST_SEARCHED)
+        return places + [one.start() for one in found]
+
+    def declared_with(self, signal: Signal, count: int) -> Tuple[Edit, ...]:
+        """A declaration with another number of values."""
+        found = re.compile(r"\bDATA\s+([0-9]+)").search(self.clean, signal.place)
+        return (Edit(found.start(1), found.end(1), str(count)),) if found else ()
 
     def signal_of(self, place: int) -> str:
         """The signal of the statement at a place."""
@@ -437,6 +471,10 @@ class Adviser:
         cure = ""
         if signal and signal.answer and is_sent:
             cure = f"put RETRIEVE {signal.answer} directly behind it"
+            answer = self.checker.signals.get(signal.answer)
+            if answer and answer.count == 0:
+                line = self.behind(self.phrase(place).end, f"RETRIEVE {signal.answer};")
+                return Advice(self.whole(place), "", self.of_signal(name), cure, (line,))
         elif signal and signal.answer:
             cure = f"put SEND {signal.answer} directly before it"
         return Advice(self.whole(place), "", self.of_signal(name), cure)
@@ -463,6 +501,12 @@ class Adviser:
 
     def of_receiver(self, place: int) -> Advice:
         name = self.signal_of(place)
+        entered = [block for block in self.checker.blocks if name in block.enters]
+        if len(entered) == 1:
+            at = entered[0].enters[name][0]
+            advice = self.of_survey(at)
+            note = self.declared(at, f"{entered[0].told()} enters it here")
+            return advice._replace(span=self.whole(place), notes=(note,))
         cure = f"put RECEIVE {name}; into the survey of the block that is to get it, and ENTER"
         cure += f" {name} into its program"
         cause = ("NORECEIVER", name)
@@ -493,7 +537,9 @@ class Adviser:
         name, block = self.signal_of(place), self.block_at(place)
         way = "RECEIVE" if self.name(place) == "ENTER" else "SEND"
         program = self.head(block, "PROGRAM")
-        edits = (self.behind(program, f"{way} {name};"),) if program else ()
+        others = block.receives if way == "RECEIVE" else block.sends
+        last = self.phrase(max(others.values())).end if others else program
+        edits = (self.behind(last, f"{way} {name};"),) if last else ()
         cause = ("NOTINSURVEY", block.number, way, name)
         cure = "put it into the survey" if edits else ""
         return Advice(self.whole(place), "", (), cure, edits, cause)
@@ -518,9 +564,10 @@ class Adviser:
         block = self.block_at(place)
         before = [at for places in block.enters.values() for at in places if at < place]
         notes = (self.declared(max(before), "the entry begins here"),) if before else ()
-        start = self.lines.start(place)
-        blanks = self.text[start:place]
-        edit = Edit(place, place, "EXIT;\n" + blanks if not blanks.strip() else "EXIT; ")
+        is_alone = is_first(self.checker, place)
+        edit = Edit(place, place, "EXIT; ")
+        if is_alone:
+            edit = line_behind(self.checker, place, "EXIT;", place)
         return Advice(self.whole(place), "", notes, "end it before", (edit,))
 
     def of_comment(self, place: int) -> Advice:
@@ -584,9 +631,16 @@ class Adviser:
         return Advice(Span(place, found.start() if found else self.span(place).end))
 
     def of_wide(self, place: int) -> Advice:
-        """A constant, and where what it is stored in is declared."""
-        name = self.name(self.statement(place))
-        return Advice(self.span(place), notes=self.of_declared(place, name))
+        """A constant, and where what it is stored in is declared, with a width that holds it."""
+        name, bits = self.name(self.statement(place)), self.number(place).bit_length()
+        notes, block = self.of_declared(place, name), self.block_at(place)
+        start = notes[0].span.end if notes else 0
+        width = re.compile(r"\s+WIDTH\s+([0-9]+)").match(self.clean, start) if notes else None
+        plain = Advice(self.span(place), notes=notes, cause=("TOOWIDE", block.number, name))
+        if not width or not 0 < bits <= MOST_WIDTH:
+            return plain
+        edits = (Edit(width.start(1), width.end(1), str(bits)),)
+        return plain._replace(cure=f"{bits} bits hold it", edits=edits)
 
     def of_record(self, place: int) -> Advice:
         """A pointer, and where the file is declared of whose record it has the number."""

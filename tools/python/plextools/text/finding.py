@@ -9,6 +9,9 @@ from typing import Hashable, NamedTuple, Optional, Tuple
 from plextools.text.tokens import Lines
 
 
+SMALL_LETTERS = ("BADBYTE", "small letters")  # the cause of all words in small letters
+
+
 class Severity(Enum):
     """How much a finding matters: a text with an error is refused, one with a warning is not."""
 

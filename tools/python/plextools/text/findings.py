@@ -6,7 +6,7 @@ from typing import Dict, Hashable, List, Sequence, Tuple
 from plextools.text import change
 from plextools.text.advice import Adviser
 from plextools.text.faults import Fault
-from plextools.text.finding import Advice, Edit, Finding, Severity, Span
+from plextools.text.finding import SMALL_LETTERS, Advice, Edit, Finding, Severity, Span
 from plextools.text.line_advice import LineAdviser
 from plextools.text.signal_files import LineFile
 from plextools.text.tokens import TOKEN, Told
@@ -90,26 +90,38 @@ def by_cause(findings: Sequence[Finding]) -> List[Finding]:
         for note in one.advice.notes
     }
     first: Dict[Tuple[int, Hashable], int] = {}
-    told: List[Finding] = []
+    groups: List[List[Finding]] = []
     for finding in findings:
         if finding.word == "UNUSED" and (finding.file, finding.place) in meant:
             continue
         cause = finding.advice.cause
-        known = first.setdefault((finding.file, cause), len(told)) if cause else len(told)
-        if known == len(told):
-            told.append(finding)
-        else:
-            told[known] = joined(told[known], finding)
-    return told
+        known = first.setdefault((finding.file, cause), len(groups)) if cause else len(groups)
+        if known == len(groups):
+            groups.append([])
+        groups[known].append(finding)
+    return [joined(*group) for group in groups]
 
 
-def joined(one: Finding, other: Finding) -> Finding:
-    """A finding with another one of the same cause."""
-    added = tuple(edit for edit in other.advice.edits if edit not in one.advice.edits)
-    is_one_cure = all(same_kind(edit, one.advice.edits) for edit in added)
-    edits = one.advice.edits + added if is_one_cure else one.advice.edits
-    others = one.others + (other.advice.span,)
-    return one._replace(advice=one.advice._replace(edits=edits), others=others)
+def joined(one: Finding, *others: Finding) -> Finding:
+    """A finding with others of the same cause."""
+    advice, cure = one.advice, one.advice.cure
+    is_small, edits = advice.cause == SMALL_LETTERS, dict.fromkeys(advice.edits)
+    for other in others:
+        added = [edit for edit in other.advice.edits if edit not in edits]
+        is_one_word = all(same_kind(edit, advice.edits) for edit in added)
+        if is_small and not is_one_word:
+            cure = "write all of them in capital letters"
+        if is_small or is_one_word or is_habit(advice):
+            edits.update(dict.fromkeys(added))
+    spans = tuple(other.advice.span for other in others)
+    return one._replace(
+        advice=advice._replace(edits=tuple(edits), cure=cure), others=one.others + spans
+    )
+
+
+def is_habit(advice: Advice) -> bool:
+    """Whether a form of another language is told, of which each place is cured by itself."""
+    return isinstance(advice.cause, tuple) and advice.cause[:1] == ("habit",)
 
 
 def same_kind(edit: Edit, edits: Sequence[Edit]) -> bool:

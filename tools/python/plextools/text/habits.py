@@ -7,8 +7,9 @@ text is judged as if it stood rewritten; where these edits alone mean the same, 
 """
 import re
 from itertools import islice
-from typing import Callable, Iterator, List, Match, NamedTuple, Optional, Tuple
+from typing import Callable, Iterator, List, Match, NamedTuple, Optional, Tuple, Union
 
+from plextools.text.closers import depth
 from plextools.text.finding import Edit, Span
 from plextools.text.tokens import COMMENT, KEYWORDS
 
@@ -18,9 +19,15 @@ BEGINS = ("THEN", "ELSE", "DO", "DECLARE", "PROGRAM", "SURVEY")
 SMALL = {code: code - 32 for code in range(ord("a"), ord("z") + 1)}
 NUMBER_BASES = {"H": 16, "D": 10, "O": 8, "B": 2, "X": 16}
 OPENING = re.compile(r"\b(?:THEN|FI|ELSIF|ELSEIF|ON|WHILE|NO|OD)\b")
+WHILE = re.compile(r"\bWHILE\b[^;]{0,2000}?\bDO\b")
+ELSIF_THEN = re.compile(r"\b(?:ELSIF|ELSEIF)\b[^;]{0,2000}?\bTHEN\b")
 ELSIF, THEN = re.compile(r"\b(?:ELSIF|ELSEIF)\b"), re.compile(r"\bTHEN\b")
+DECLARED = re.compile(r"\b(?:(?<!END )DECLARE|(?:TEMPORARY|POINTER)\s+[A-Z][A-Z0-9]*)\s*;")
+BLOCK_WORD = re.compile(r"(?<![A-Z0-9])BLOCK(?![A-Z0-9])")
+ASSIGNED = re.compile(r"\b([A-Z][A-Z0-9]*)\s*=\s*([0-9]+)\s*;")
 LARGEST, MOST_DIGITS = 2**32, 32
 MOST_OF_FORM, MOST_USES, MOST_LOOKED_AT = 100, 1000, 20000  # so that no text takes long
+CLOSED_COMMENT = r"/\*.{0,2000}?\*/"
 DECIMAL = "{found} is written {edit}: numbers are decimal"
 
 
@@ -37,18 +44,20 @@ class Habit(NamedTuple):
 
 
 Rewrite = Callable[[str, Match[str]], Optional[Tuple[Edit, ...]]]
+Decides = Callable[[str, Match[str]], bool]
 
 
 class Form(NamedTuple):
-    """How a habit is found, what is said of it, and which edits rewrite it. One that `is_first` is
-    a habit only where a statement or a declaration may begin.
+    """How a habit is found, what is said of it, and which edits rewrite it; whether these are its
+    cure, or what decides that. One that `is_first` is a habit only where a statement or a
+    declaration may begin.
     """
 
     kind: str
     pattern: "re.Pattern[str]"
     sentence: str
     rewrite: Rewrite
-    is_cure: bool = True
+    is_cure: Union[bool, Decides] = True
     is_first: bool = False
 
 
@@ -109,16 +118,48 @@ def end_of_elsif(text: str, place: int) -> Optional[Match[str]]:
 
 
 def loop(text: str, found: Match[str]) -> Tuple[Edit, ...]:
-    """WHILE is judged as an IF, and its end as a FI."""
-    begin = Edit(found.start(), found.start() + len("WHILE"), "IF")
+    """WHILE is an IF behind a label, and its end a GOTO to that and a FI. Where a label cannot
+    stand, it is judged without.
+    """
+    is_cure = may_have_label(text, found)
+    label = fresh(text, "LOOP", len(WHILE.findall(text, 0, found.end())))
+    begin = Edit(found.start(), found.start() + len("WHILE"), f"{label}) IF" if is_cure else "IF")
     do = Edit(found.end() - len("DO"), found.end(), "THEN")
     end = ending(text, found.end(), ("NO", "OD"))
-    return (begin, do, Edit(end.start(), end.end(), "FI")) if end else (begin, do)
+    back = f"GOTO {label}; FI" if is_cure else "FI"
+    return (begin, do, Edit(end.start(), end.end(), back)) if end else (begin, do)
+
+
+def may_have_label(text: str, found: Match[str]) -> bool:
+    """Whether a loop ends, and no other statement is open where it begins."""
+    start = max(text.rfind(word, 0, found.start()) for word in ("ENTER", "PROGRAM"))
+    if start < found.start() - MOST_LOOKED_AT or not ending(text, found.end(), ("NO", "OD")):
+        return False
+    before = WHILE.sub("ON", text[start : found.start()])
+    before = re.sub(r"\bOD\b", "NO", ELSIF_THEN.sub("", before))
+    return not depth(before, 0, len(before))
+
+
+def fresh(text: str, word: str, number: int) -> str:
+    """A name that stands nowhere in a text, with a number at its end."""
+    while re.search(rf"\b{word}{number}\b", text):
+        number += 1
+    return f"{word}{number}"
+
+
+def block_end(text: str, place: int) -> int:
+    """Where the block ends in which a place is."""
+    end = re.compile(r"\bEND\s+BLOCK\b").search(text, place)
+    return end.start() if end else len(text)
 
 
 def constant(text: str, found: Match[str]) -> Tuple[Edit, ...]:
-    """A constant is its number, wherever its name stands behind."""
-    uses = re.compile(rf"\b{found['name']}\b").finditer(text, found.end())
+    """A constant is its number, wherever its name stands behind: in its block, or in all of them
+    where it stands before the first one or is a global one.
+    """
+    is_global = "GLOBAL" in found[0] or not re.compile(r"\bBLOCK\b").search(text, 0, found.start())
+    last = len(text) if is_global else block_end(text, found.end())
+    uses = re.compile(rf"\b{found['name']}\b").finditer(text, found.end(), last)
     some = islice(uses, MOST_USES)
     numbers = [Edit(one.start(), one.end(), found["value"]) for one in some]
     return (Edit(found.start(), found.end(), ""), *numbers)
@@ -126,14 +167,26 @@ def constant(text: str, found: Match[str]) -> Tuple[Edit, ...]:
 
 def symbols(text: str, found: Match[str]) -> Tuple[Edit, ...]:
     """A variable with symbolic values is one with numbers, in the order of the symbols."""
-    names = [name for name in WORD.findall(found["values"]) if name not in KEYWORDS]
-    end = re.compile(r"\bEND\s+BLOCK\b").search(text, found.end())
-    last = end.start() if end else len(text)
-    edits = [Edit(found.start(), found.end(), f"VARIABLE {found['name']} WIDTH 8;")]
-    for value, name in islice(enumerate(dict.fromkeys(names)), MOST_OF_FORM):
+    names = symbols_of(found)
+    last = block_end(text, found.end())
+    width = max(1, (len(names) - 1).bit_length())
+    edits = [Edit(found.start(), found.end(), f"VARIABLE {found['name']} WIDTH {width};")]
+    for value, name in islice(enumerate(names), MOST_OF_FORM):
         uses = re.compile(rf"\b{name}\b").finditer(text, found.end(), last)
         edits += [Edit(one.start(), one.end(), str(value)) for one in uses]
     return tuple(edits)
+
+
+def symbols_of(found: Match[str]) -> List[str]:
+    names = [name for name in WORD.findall(found["values"]) if name not in KEYWORDS]
+    return list(dict.fromkeys(names))
+
+
+def are_only_symbols(text: str, found: Match[str]) -> bool:
+    """Whether the symbols of a variable are no names of anything else."""
+    names = "|".join(symbols_of(found)[:MOST_OF_FORM])
+    words = "VARIABLE|TEMPORARY|FIELD|FILE|SIGNAL|ANSWER|BLOCK|RECEIVE|SEND|ENTER|GOTO"
+    return bool(names) and not re.search(rf"\b(?:{words})\s+(?:{names})\b", text)
 
 
 def array(_: str, found: Match[str]) -> Tuple[Edit, ...]:
@@ -143,6 +196,11 @@ def array(_: str, found: Match[str]) -> Tuple[Edit, ...]:
     name = found["name"]
     words = f"FILE {name[:26]}FILE SIZE {size}; FIELD {name} WIDTH {width};"
     return (Edit(found.start(), found.end(), words),)
+
+
+def has_number(_: str, found: Match[str]) -> bool:
+    """Whether a declaration says how many there are."""
+    return bool(re.search(r"\b[0-9]+", found[0]))
 
 
 def record(_: str, found: Match[str]) -> Tuple[Edit, ...]:
@@ -164,12 +222,58 @@ def delay(text: str, found: Match[str]) -> Tuple[Edit, ...]:
 
 
 def no_value(text: str, found: Match[str]) -> Tuple[Edit, ...]:
-    """A value that is passed over is a temporary of the block, or 0 where it is sent."""
+    """A value that is passed over goes to a temporary that nothing uses; one of those that are sent
+    is judged as 0.
+    """
+    last = last_declared(text, found.start())
+    if not is_taken(text, found) or last is None:
+        return (Edit(found.end() - 1, found.end(), "0"),)
+    name = fresh(text, "PASSED", 1)
+    word = Edit(found.end() - 1, found.end(), name)
+    return (word, Edit(last.end(), last.end(), f" TEMPORARY {name};"))
+
+
+def is_taken(text: str, found: Match[str]) -> bool:
+    """Whether values are taken from a signal, and are not sent."""
     start = text.rfind(";", 0, found.start()) + 1
-    is_taken = re.search(r"\b(?:ENTER|RETRIEVE)\b", text[start : found.end()])
-    temporaries = re.findall(r"\bTEMPORARY\s+([A-Z][A-Z0-9]*)", text[: found.start()])
-    word = temporaries[-1] if is_taken and temporaries else "0"
-    return (Edit(found.end() - 1, found.end(), word),)
+    taken = re.search(r"\b(?:ENTER|RETRIEVE)\b", text[start : found.end()])
+    return taken is not None and last_declared(text, found.start()) is not None
+
+
+def block_start(text: str, place: int) -> int:
+    """Where the last word BLOCK before a place stands."""
+    for _ in range(MOST_OF_FORM):
+        place = text.rfind("BLOCK", 0, max(place, 0))
+        if place < 0 or BLOCK_WORD.match(text, place):
+            break
+    return max(place, 0)
+
+
+def last_declared(text: str, place: int) -> Optional[Match[str]]:
+    """The last declaration of a temporary in the block of a place, or else its DECLARE."""
+    start = block_start(text, place)
+    declared = None
+    for declared in DECLARED.finditer(text, start, min(place, start + MOST_LOOKED_AT)):
+        pass
+    return declared
+
+
+def initial(text: str, found: Match[str]) -> Tuple[Edit, ...]:
+    """What a part DATA says of variables stands behind their widths."""
+    edits = [Edit(found.start(), found.end(), "")]
+    start = max(text.rfind("DECLARE", 0, found.start()), 0)
+    for name, value in ASSIGNED.findall(found[0]):
+        declared = re.compile(rf"\bVARIABLE\s+{name}\s+WIDTH\s+[0-9]+(?=\s*(?:;|CLEAR\b))")
+        there = declared.search(text, start, found.start())
+        if there:
+            edits.append(Edit(there.end(), there.end(), f" INIT {value}"))
+    return tuple(edits)
+
+
+def is_all_initial(text: str, found: Match[str]) -> bool:
+    """Whether a part DATA has nothing but values of variables."""
+    lines = [line for line in found[0].split(";") if line.strip()]
+    return len(initial(text, found)) == len(lines) - 1 > 1
 
 
 def part_end(text: str, found: Match[str]) -> Tuple[Edit, ...]:
@@ -181,6 +285,20 @@ def part_end(text: str, found: Match[str]) -> Tuple[Edit, ...]:
 
 def comment(_: str, found: Match[str]) -> Tuple[Edit, ...]:
     return (Edit(found.start(), found.start() + len("//"), "!"),)
+
+
+def closed(_: str, found: Match[str]) -> Tuple[Edit, ...]:
+    """A comment of C begins each of its lines by a !, and has no end."""
+    marks = [Edit(found.start(), found.start() + len("/*"), "!")]
+    for end in re.finditer(r"\n", found[0]):
+        at = found.start() + end.end()
+        marks.append(Edit(at, at, "!"))
+    return (*marks, Edit(found.end() - len("*/"), found.end(), ""))
+
+
+def is_last(text: str, found: Match[str]) -> bool:
+    """Whether nothing stands behind a comment on its line."""
+    return not text[found.end() :].split("\n", 1)[0].strip()
 
 
 def counting(_: str, found: Match[str]) -> Tuple[Edit, ...]:
@@ -199,7 +317,7 @@ def form(
     pattern: str,
     sentence: str,
     rewrite: Rewrite,
-    is_cure: bool = True,
+    is_cure: Union[bool, Decides] = True,
     first: bool = False,
 ) -> Form:
     return Form(kind, re.compile(pattern, re.S), sentence, rewrite, is_cure, first)
@@ -208,7 +326,7 @@ def form(
 FORMS = (
     # comments, numbers and marks
     form("//", r"//[^\n]*", "a comment begins with !", comment),
-    form("/*", r"/\*.{0,2000}?\*/", "a comment goes from ! to the end of its line", by(""), False),
+    form("/*", CLOSED_COMMENT, "a comment goes from ! to the end of its line", closed, is_last),
     form("base", r"(?<![A-Z0-9])(?P<base>[HDOB])'(?P<digits>[0-9A-F]+)'?", DECIMAL, number),
     form("base", r"(?<![A-Z0-9])(?P<base>0X)(?P<digits>[0-9A-F]+)", DECIMAL, number),
     form("/=", r"/=", "/= is written <>", by("<>")),
@@ -234,10 +352,10 @@ FORMS = (
     ),
     form(
         "WHILE",
-        r"\bWHILE\b[^;]{0,2000}?\bDO\b",
+        WHILE.pattern,
         "there is no WHILE: put a label before IF .. THEN, and a GOTO to that label before FI",
         loop,
-        False,
+        may_have_label,
         True,
     ),
     form("OD", r"\bOD\b(?=\s*;)", "a loop by ON ends in NO", by("NO"), True, True),
@@ -260,7 +378,7 @@ FORMS = (
         r"(?:\bWITH|,)\s*\+(?=\s*[,;])",
         "no value is passed over: name a temporary in ENTER and RETRIEVE, and a value in SEND",
         no_value,
-        False,
+        is_taken,
     ),
     # declarations
     form(
@@ -268,28 +386,27 @@ FORMS = (
         rf"\b(?:SYMBVAR|SYMVAR|SYMBOL\s+VARIABLE)\s+{NAME}(?P<values>[^;]{{0,2000}});",
         "there are no symbolic values: declare a VARIABLE, and write a number for each of them",
         symbols,
-        False,
+        are_only_symbols,
     ),
     form(
         "NSYMB",
         rf"\b(?:GLOBAL\s+)?(?:NSYMB|CONST|CONSTANT)\s+{NAME}\s*=\s*(?P<value>[0-9]+)\s*;",
         "there are no named constants: write the number where the name stands, and a comment",
         constant,
-        False,
     ),
     form(
         "ARRAY",
         rf"\b(?:ARRAY|VARIABLE(?=\s+[A-Z0-9]+\s*(?:ARRAY\b|\()))\s+{NAME}[^;]{{0,2000}};",
         "an array is a file of one field: {edit} The index is a pointer",
         array,
-        False,
+        has_number,
     ),
     form(
         "RECORD",
         rf"\bRECORD\s+{NAME}[^;]{{0,2000}};",
         "records are those of a file: {edit} and behind it a FIELD for each part",
         record,
-        False,
+        has_number,
     ),
     form("POINTER", rf"\bPOINTER(?=\s+{NAME})", "a pointer is a TEMPORARY", by("TEMPORARY")),
     form(
@@ -349,9 +466,25 @@ FORMS = (
         "DATA",
         r"\bDATA\s*;(?:.{0,2000}?\bEND\s+DATA\s*;)?",
         "there is no part DATA: INIT behind WIDTH says what a variable begins with",
-        by(""),
-        False,
+        initial,
+        is_all_initial,
     ),
+    # of C
+    form(
+        "[",
+        rf"\b{NAME}\s*\[\s*(?P<index>[A-Z][A-Z0-9]*)\s*\]",
+        "a pointer stands in round brackets: {edit}",
+        by(r"\g<name>(\g<index>)"),
+    ),
+    form(
+        "=+",
+        rf"\b{NAME}\s*=(?P<sign>[-+])(?=\s)",
+        "name what is changed on both sides, as N = N + 1",
+        by(r"\g<name> = \g<name> \g<sign>"),
+    ),
+    form("{", r"\}\s*ELSE\s*\{", "an IF has THEN, ELSE and FI", by("ELSE")),
+    form("{", r"(?<=[A-Z0-9)])\s*\{", "an IF has THEN, ELSE and FI", by(" THEN")),
+    form("{", r"\}(?!\s*ELSE\b)", "an IF has THEN, ELSE and FI", by("FI;")),
 )
 
 
@@ -380,4 +513,6 @@ def of_form(plain: str, form: Form) -> Iterator[Habit]:
         if edits:
             said = form.sentence.format(found=found[0], edit=edits[0].text.strip())
             span = Span(found.start(), found.end())
-            yield Habit(span, form.kind, said, edits, form.is_cure)
+            is_cure = form.is_cure
+            is_cure = is_cure if isinstance(is_cure, bool) else is_cure(plain, found)
+            yield Habit(span, form.kind, said, edits, is_cure)

@@ -2,8 +2,10 @@
 wrong, and which edits would cure it.
 """
 import difflib
+import re
 from typing import TYPE_CHECKING, Iterable, List, NamedTuple, Optional, Sequence, Tuple
 
+from plextools.text.closers import CLOSERS, closes_later, ends_by_indent, is_first, line_behind
 from plextools.text.finding import Edit
 from plextools.text.grammar import Node, Stop
 from plextools.text.tokens import KEYWORDS, RELATIONS, TOKEN, Lines, shown
@@ -11,14 +13,6 @@ from plextools.text.tokens import KEYWORDS, RELATIONS, TOKEN, Lines, shown
 if TYPE_CHECKING:
     from plextools.text.reader import Frame, Reader
 
-CLOSERS = {
-    "IF": "FI",
-    "ELSE": "FI",
-    "CASE": "ESAC",
-    "WHEN": "ESAC",
-    "OTHERWISE": "ESAC",
-    "ON": "NO",
-}
 OPENERS = {
     "FI": "IF",
     "ELSE": "IF",
@@ -33,6 +27,12 @@ NOUNS = {
     "BLOCK": "first line of the block",
     "RECEIVE": "line of the survey",
 }
+BEGIN = {
+    "begun": ("DECLARE",),
+    "declared": ("VARIABLE", "TEMPORARY", "FILE", "FORLOPP", "FIELD", "SURVEY"),
+    "surveyed": ("RECEIVE", "SEND", "PROGRAM"),
+}
+NAME_ALONE = re.compile(r"[A-Z][A-Z0-9]*[ \t\r\n]*;")
 LATE = {
     "REFERENCE": "REFERENCE stands before WITH, in a SEND and a TRANSFER alone",
     "INIT": "INIT stands before CLEAR",
@@ -104,7 +104,7 @@ def why_not(reader: "Reader", place: int, word: str, misfit: Misfit) -> Optional
         return of_phrase(reader, word, node, misfit.shift, misfit.stop)
     if node is not None and node.kind == "label" and frame is not None and frame.node is not None:
         told = f"a label stands in no other statement, and {told_frame(frame, lines)} is open"
-        return Hint(told, frame.place)
+        return Hint(told, frame.place, before_label(reader, node.first.place + misfit.shift))
     if len(reader.frames) > 1 and reader.section == "running":
         return of_list(reader, word, lines, place)
     if word in OPENERS and reader.section == "running":
@@ -171,18 +171,40 @@ def of_open_lists(reader: "Reader", word: str, lines: Lines, place: int) -> Hint
     told = f"{open_ones[0]} has no {CLOSERS[frame.state]}{others}"
     ends = [] if word not in ("ENTER", "END", "BLOCK", "") else frames
     ends = ends or frames[:1]
-    if any(one.state in ("CASE", "WHEN") for one in ends):
-        return Hint(told, frame.place)
-    line = " ".join(f"{CLOSERS[one.state]};" for one in ends)
-    return Hint(told, frame.place, (line_before(reader, place, line, ends[-1].place),))
+    return Hint(told, frame.place, ends_of(reader, ends, place))
+
+
+def ends_of(reader: "Reader", frames: Sequence["Frame"], place: int) -> Tuple[Edit, ...]:
+    """The ends of open statements, the innermost one first, where their lines tell, or else before
+    a place; none of a CASE without OTHERWISE.
+    """
+    if any(one.state in ("CASE", "WHEN") for one in frames):
+        return ()
+    line = " ".join(f"{CLOSERS[one.state]};" for one in frames)
+    edits = ends_by_indent(reader, frames, place)
+    return tuple(edits or [line_before(reader, place, line, frames[-1].place)])
+
+
+def before_label(reader: "Reader", place: int) -> Tuple[Edit, ...]:
+    """The ends of what is open at a label, where none of it ends later."""
+    if closes_later(reader.source.clean, place):
+        return ()
+    return ends_of(reader, reader.frames[:0:-1], place)
 
 
 KEYWORD_SAID = "no statement begins with {}"
 
 
 def of_section(reader: "Reader", word: str, lines: Lines, at: int) -> Optional[Hint]:
-    """A part of a text is missing, or stands elsewhere."""
+    """A part of a text is missing, or stands elsewhere, or begins with no keyword."""
     section = reader.section
+    if section in BEGIN and word.isalpha() and word not in KEYWORDS:
+        meant = near(word, BEGIN[section])
+        if meant:
+            told = f"{word} is no keyword; {meant} is"
+            return Hint(told, None, (Edit(at, at + len(word), meant),))
+        if section == "surveyed" and NAME_ALONE.match(reader.source.clean, at):
+            return Hint("a line of a survey begins with RECEIVE or SEND")
     if section == "top":
         if word == "SIGNAL":
             return Hint("signals stand before the first block")
@@ -197,20 +219,21 @@ def of_section(reader: "Reader", word: str, lines: Lines, at: int) -> Optional[H
     place: Optional[int] = getattr(reader, "block_place", None)
     begun = "the block" if place is None else f"the block of line {lines.line(place)}"
     if word in ("BLOCK", "") and section != "begun":
-        edits = missing_line(reader, at, "END BLOCK;") if section == "running" else ()
+        is_end = section == "running"
+        edits = missing_line(reader, at, "END BLOCK;", place) if is_end else ()
         return Hint(f"{begun} has no END BLOCK;", place, edits)
     if section == "begun":
-        return Hint(f"{begun} has no DECLARE;", place, missing_line(reader, at, "DECLARE;"))
+        return Hint(f"{begun} has no DECLARE;", place, missing_line(reader, at, "DECLARE;", place))
     if word == "FIELD":
         return Hint("a FIELD stands directly behind its FILE")
     if section == "declared" and word in ("RECEIVE", "SEND", "PROGRAM", "ENTER"):
         is_survey = word in ("RECEIVE", "SEND", "PROGRAM")
-        edits = missing_line(reader, at, "SURVEY;") if is_survey else ()
+        edits = missing_line(reader, at, "SURVEY;", place) if is_survey else ()
         return Hint(f"{begun} has no SURVEY;", place, edits)
     if section == "surveyed":
         if word in ("VARIABLE", "TEMPORARY", "FILE", "FORLOPP"):
             return Hint("declarations stand between DECLARE; and SURVEY;")
-        return Hint(f"{begun} has no PROGRAM;", place, missing_line(reader, at, "PROGRAM;"))
+        return Hint(f"{begun} has no PROGRAM;", place, missing_line(reader, at, "PROGRAM;", place))
     if word in ("VARIABLE", "TEMPORARY", "FILE", "FORLOPP"):
         return Hint("declarations stand between DECLARE; and SURVEY;")
     if word == "RECEIVE":
@@ -225,8 +248,11 @@ def of_section(reader: "Reader", word: str, lines: Lines, at: int) -> Optional[H
     return Hint(KEYWORD_SAID.format(word)) if word in KEYWORDS else None
 
 
-def missing_line(reader: "Reader", place: int, line: str) -> Tuple[Edit, ...]:
-    return (line_before(reader, place, line),)
+def missing_line(reader: "Reader", place: int, line: str, block: Optional[int]) -> Tuple[Edit, ...]:
+    """A line that ends a part of a block, as deep as the first line of the block."""
+    if block is None or not is_first(reader, place):
+        return (line_before(reader, place, line),)
+    return (line_behind(reader, place, line, block),)
 
 
 def of_phrase(reader: "Reader", word: str, node: Node, shift: int, stop: Stop) -> Optional[Hint]:
@@ -241,6 +267,10 @@ def of_phrase(reader: "Reader", word: str, node: Node, shift: int, stop: Stop) -
     if word == "-" and stop.wanted[0].startswith("a number,"):
         told = "a minus sign stands between two operands: write 0 - 1 for -1"
         return Hint(told, None, (Edit(place, place, "0 "),))
+    end = first.piece.place(stop.index - 1) + shift + len(before)
+    is_whole = not reader.source.text[end:place].strip()
+    if word == "+" and is_whole and stop.wanted[0].startswith("a number,"):
+        return Hint("a plus sign stands between two operands", None, (Edit(place, place + 1, ""),))
     if word in RELATIONS and stop.wanted[0] == ")":
         return Hint("a condition has no brackets around it", None, unbracketed(node, shift, stop))
     if stop.wanted == ["the name of a temporary"] and word.isdigit():
@@ -251,10 +281,15 @@ def of_phrase(reader: "Reader", word: str, node: Node, shift: int, stop: Stop) -
             return None
         edit = Edit(begun, begun + len(first.text), meant)
         return Hint(f"{shown(first.text)} is no keyword; {meant} is", None, (edit,))
+    if word == ";" and stop.wanted == ["WIDTH"]:
+        told = "each variable and field has a WIDTH; 32 bits hold any value"
+        return Hint(told, None, (Edit(place, place, " WIDTH 32"),))
+    if first.text == "END" and stop.wanted == ["BLOCK"]:
+        return Hint("a block ends by END BLOCK;", None, (Edit(place, place, " BLOCK"),))
     if first.text == "SEIZE" and stop.wanted[0] in ("ELSE", "GOTO"):
         return Hint("SEIZE ends in ELSE GOTO and a label, for when no record is free")
     if stop.wanted == ["THEN", "GOTO"]:
-        then = () if word in ("", ";", ")") else (Edit(place, place, "THEN "),)
+        then = () if word in ("", ";", ")") else (Edit(end, end, " THEN"),)
         return Hint(f"the IF of line {lines.line(begun)} has neither", begun, then)
     noun = NOUNS.get(first.text, "statement")
     if stop.complete:
@@ -262,7 +297,6 @@ def of_phrase(reader: "Reader", word: str, node: Node, shift: int, stop: Stop) -
             return Hint(LATE[word])
         if noun == "statement" and reader.section == "surveyed":
             noun = "line of the survey"
-        end = first.piece.place(stop.index - 1) + shift + len(before)
         return Hint(f"the {noun} of line {lines.line(begun)} has no end", begun, ends_at(end))
     if not word:
         return Hint(f"the {noun} of line {lines.line(begun)} is not whole", begun)

@@ -8,10 +8,12 @@ those that were cured, in the order in which plex would tell them, and what then
 the places of the text as it is. Their first one is the first fault of the text.
 """
 import re
+from functools import partial
 from typing import List, NamedTuple, Optional, Sequence, Tuple
 
+from plextools.text.faults import LINKS
 from plextools.text.finding import Advice, Edit, Finding, Note, Severity
-from plextools.text.findings import of_exchange
+from plextools.text.findings import NAMING, of_exchange
 from plextools.text.habits import Habit, habits
 from plextools.text.rewriting import Rewriting
 from plextools.text.tokens import Text
@@ -68,36 +70,53 @@ def retold(text: str, most: int, file: int, findings: List[Finding]) -> List[Fin
         told += [back(one, stages) for one in step.told]
         stages.append(step.rewriting)
         now = step.then
-    rest = [back(one, stages) for one in unswallowed(now, most, file)]
+    rest = [back(one, stages) for one in unmisspelled(now, most, file)]
     known = {key_of(one) for one in findings}
     rest = [one for one in rest if is_error(one) or key_of(one) in known]
     return ordered([*told, *rest])
 
 
+def unmisspelled(now: Judged, most: int, file: int) -> List[Finding]:
+    """The findings of a text, without warnings and faults of links that come from misspelled
+    names.
+    """
+    findings = unswallowed(now, most, file)
+    edits = [edit for one in findings if one.word in NAMING for edit in one.advice.edits]
+    may_follow = [one for one in findings if not is_error(one) or one.word in LINKS]
+    if not edits or not may_follow or len(now.text) > LARGEST:
+        return findings
+    rewriting = Rewriting(now.text, edits)
+    left = {key_of(rewriting.finding(one)) for one in judged(rewriting.text, most, file).findings}
+    return [one for one in findings if one not in may_follow or key_of(one) in left]
+
+
 def unswallowed(now: Judged, most: int, file: int) -> List[Finding]:
     """The findings of a text, where those that come from a statement in a comment are one finding,
-    with a note of that statement. Such a comment is closed by a second !, as in other PLEX.
+    with a note of that statement; warnings that come from it are not told.
     """
     findings = now.findings
-    for one in [one for one in findings if one.word == "SWALLOWED"][:MOST_ALONE]:
-        phrase = one.advice.span
-        is_closed = "!" in now.text[at(one) + 1 : phrase.start]
-        if not is_closed or not any(map(is_error, findings)):
-            continue
-        rewriting = Rewriting(now.text, [Edit(at(one), phrase.start, "")])
+    for one in swallowed(now):
+        rewriting = Rewriting(now.text, [Edit(at(one), one.advice.span.start, "")])
         then = [rewriting.finding(other) for other in judged(rewriting.text, most, file).findings]
-        left = {(other.place, other.word) for other in then}
-        gone = [other for other in findings if is_error(other) and key_of(other) not in left]
-        if gone and sum(map(is_error, then)) < sum(map(is_error, findings)):
-            dropped = [one, *gone[1:]]
-            told = with_comment(gone, one)
-            findings = [told if other is gone[0] else other for other in findings]
+        left = set(map(key_of, then))
+        gone = [other for other in findings if key_of(other) not in left and other != one]
+        errors = [other for other in gone if is_error(other)]
+        if errors and count_errors(then) < count_errors(findings):
+            dropped = [one, *gone]
+            told = with_comment(errors, one)
+            findings = [told if other is errors[0] else other for other in findings]
             findings = [other for other in findings if other not in dropped]
+        elif not count_errors(findings) and not count_errors(then):
+            findings = [other for other in findings if other not in gone]
     return findings
 
 
 def is_error(finding: Finding) -> bool:
     return finding.severity is Severity.ERROR
+
+
+def count_errors(findings: Sequence[Finding]) -> int:
+    return sum(map(is_error, findings))
 
 
 def key_of(finding: Finding) -> Tuple[Optional[int], str]:
@@ -135,7 +154,21 @@ def cures(now: Judged, file: int) -> List[Cure]:
         if not any(is_of(habit, one) for habit in found)
     ]
     first = [Cure([one], list(one.advice.edits)) for one in with_edits(now, OF_GRAMMAR)[:1]]
-    return [*([together(alone)] if alone else []), *first, *alone[:MOST_ALONE]]
+    opened = [cure for cure in map(partial(opening, now), swallowed(now)) if cure]
+    return [*([together(alone)] if alone else []), *opened, *first, *alone[:MOST_ALONE]]
+
+
+def swallowed(now: Judged) -> List[Finding]:
+    """Comments with a statement in them behind a second !, as in other PLEX."""
+    found = [one for one in now.findings if one.word == "SWALLOWED"][:MOST_ALONE]
+    return [one for one in found if "!" in now.text[at(one) + 1 : one.advice.span.start]]
+
+
+def opening(now: Judged, comment: Finding) -> Optional[Cure]:
+    """The statement of a comment, as the cure of the first fault of the grammar behind it."""
+    behind = [one for one in now.misspelled if one.word in OF_GRAMMAR and at(one) > at(comment)]
+    edit = Edit(at(comment), comment.advice.span.start, "")
+    return Cure([with_comment(behind[:1], comment)], [edit]) if behind else None
 
 
 def is_of(habit: Habit, finding: Finding) -> bool:
@@ -169,7 +202,7 @@ def habit_cure(habit: Habit, now: Judged, file: int) -> Cure:
     inside.sort(key=lambda one: one.word not in OF_TOKENS)
     place, word = (at(inside[0]), inside[0].word) if inside else (start, OF_GRAMMAR[0])
     edits = habit.edits if habit.is_cure else ()
-    cure = "" if not edits else "write it so" if edits[0].text else "leave it out"
+    cure = "write it so" if any(edit.text for edit in edits) else "leave it out" if edits else ""
     advice = Advice(habit.span, "", (), cure, edits, ("habit", habit.sentence))
     told = Finding(file, place, word, Severity.ERROR, habit.sentence, advice)
     return Cure([told], list(habit.edits))

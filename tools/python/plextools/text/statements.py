@@ -11,6 +11,7 @@ from plextools.text.grammar import Expression, Factor, Node, Part
 from plextools.text.points import first_in, place
 from plextools.text.accepted import KEYWORDS, Tree, tree, words_from
 from plextools.text.tokens import RELATIONS
+from plextools.text.tree import Watch, nothing
 
 LIST_WORDS = ("THEN", "IS", "DO")
 
@@ -125,9 +126,9 @@ def written(words: Sequence[str]) -> str:
 class Text:
     """The statements of an exchange text that plex accepts."""
 
-    def __init__(self, name: str, content: bytes) -> None:
+    def __init__(self, name: str, content: bytes, watch: Watch = nothing) -> None:
         self.name = name
-        signals, blocks = tree(Reader, content)
+        signals, blocks = tree(Reader, content, watch)
         self.blocks = [Block(node) for node in blocks]
         self.signals: Dict[str, Signal] = {}
         self.names: List[str] = []
@@ -138,6 +139,7 @@ class Text:
             self.declare(block)
         self.points = place(blocks)
         for node in self.points:
+            watch()
             node.line = node.first.line
         self.find_ways()
         self.entries = [

@@ -6,7 +6,7 @@ the program does.
 `numbers` of its WHENs. A class over `Tree` reads expressions in a way of its own, by `expr`, which
 stands on `factor`, and conditions by `cond`.
 """
-from typing import List, NamedTuple, Optional, Type
+from typing import Callable, List, NamedTuple, Optional, Type
 
 from plextools.text.grammar import (
     Bracket,
@@ -29,6 +29,13 @@ class Sentence(NamedTuple):
     blocks: List[Node]
 
 
+Watch = Callable[[], None]  # raises what ends the work
+
+
+def nothing() -> None:
+    """Watches nothing: what goes on goes on to its end."""
+
+
 class Tree(Reader):
     """Keeps all that stands in a text."""
 
@@ -36,6 +43,7 @@ class Tree(Reader):
 
     def __init__(self, source: Text) -> None:
         super().__init__(source)
+        self.watch: Watch = nothing
         self.signals: List[Node] = []
         self.blocks: List[Node] = []
 
@@ -44,6 +52,10 @@ class Tree(Reader):
         if self.source.faults or self.grammar:
             raise ValueError("the text is no sentence")
         return Sentence(self.signals, self.blocks)
+
+    def new_piece(self, at: int, end: int, key: Optional[str] = None) -> None:
+        self.watch()
+        super().new_piece(at, end, key)
 
     def cond(self) -> List[Expression]:
         """The expressions of a condition."""
@@ -133,5 +145,7 @@ class Tree(Reader):
             self.blocks[-1].end = node.first
 
 
-def tree(reader: Type[Tree], data: bytes) -> Sentence:
-    return reader(Text(data, 1)).exchange()
+def tree(reader: Type[Tree], data: bytes, watch: Watch = nothing) -> Sentence:
+    reading = reader(Text(data, 1))
+    reading.watch = watch
+    return reading.exchange()

@@ -32,6 +32,7 @@ WARNINGS = {
 }
 LONG_KEYWORDS = [word for word in KEYWORDS if len(word) > 5]
 IN_COMMENT = re.compile(r"(?<![A-Za-z0-9_])[A-Z][A-Z0-9]*")
+END_IN_COMMENT = re.compile(r"!.*!\s*((?:FI|NO|ESAC)\s*;)\s*$")
 ALONE = ("FI", "NO", "ESAC", "DECLARE", "SURVEY", "PROGRAM")
 MOST_TRIED, MOST_COMMENTS, MOST_LOOKED_AT = 20, 20000, 2**21
 
@@ -64,11 +65,17 @@ def statement_in(comment: str) -> Optional[Inside]:
         end = comment.find(";", word.end())
         tried += 1
         if end < 0 or tried > MOST_TRIED:
-            return None
+            break
         phrase = comment[word.start() : end + 1]
         if "!" not in phrase and is_phrase(phrase):
             return Inside(word.start(), phrase)
-    return None
+    return end_in(comment)
+
+
+def end_in(comment: str) -> Optional[Inside]:
+    """The end of a statement that stands alone behind the second ! of a comment."""
+    found = END_IN_COMMENT.search(comment)
+    return Inside(found.start(1), found[1]) if found else None
 
 
 def is_phrase(text: str) -> bool:
@@ -142,8 +149,12 @@ class Oddities(Checker):
     def look_at_ways(self) -> None:
         """What is odd in the ways through a text that breaks no rule and is not very large."""
         if not self.found and self.source.size <= MOST_LOOKED_AT:
-            for place, word, sentence in odd_ways(self.source.text.encode("latin-1")):
+            for place, word, sentence in self.ways_of(self.source.text.encode("latin-1")):
                 self.warn(place, word, sentence)
+
+    def ways_of(self, data: bytes) -> List[Told]:
+        """The warnings of the ways through a text."""
+        return odd_ways(data)
 
     def odd_left_out(self) -> Dict[str, int]:
         return {

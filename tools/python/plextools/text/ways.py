@@ -11,6 +11,7 @@ from plextools.text.grammar import Expression, Node
 from plextools.text.reader import ENDS
 from plextools.text.statements import Text, alone, factors_of, written
 from plextools.text.tokens import Told
+from plextools.text.tree import Watch, nothing
 
 ALL = (0, NUMBERS - 1)
 DIVIDES = ("/", "MOD")
@@ -41,10 +42,14 @@ Known = Dict[str, Highest]
 Leads = Dict[int, List[int]]  # from points to points
 
 
-def odd_ways(data: bytes) -> List[Told]:
-    """The warnings of a text that breaks no rule."""
-    text = Text("", data)
-    return sorted(told for place in range(len(text.blocks)) for told in Ways(text, place).odd())
+def odd_ways(data: bytes, watch: Watch = nothing) -> List[Told]:
+    """The warnings of a text that breaks no rule. `watch` raises what ends the search."""
+    text = Text("", data, watch)
+    told: List[Told] = []
+    for place in range(len(text.blocks)):
+        watch()
+        told += Ways(text, place).odd()
+    return sorted(told)
 
 
 def words_of(node: Node) -> List[str]:
