@@ -17,6 +17,7 @@ import os
 import sys
 
 from plextools import programs
+from plextools.commands.command_words import described
 
 MODULE = "pylsp_jsonrpc"
 PACKAGE, PROJECT = "python3-pylsp-jsonrpc", "python-lsp-jsonrpc"
@@ -25,10 +26,8 @@ PACKAGE, PROJECT = "python3-pylsp-jsonrpc", "python-lsp-jsonrpc"
 def main() -> int:
     """Runs the server."""
     words = programs.Words(__doc__)
-    words.add_argument(
-        "--stdio", action="store_true", help="what some editors add; it is so anyway"
-    )
-    words.parse_args()
+    words.add_argument("--stdio", action="store_true")
+    described(words).parse_args()
     if importlib.util.find_spec(MODULE) is None:
         how = f"apt-get install {PACKAGE} brings it for Debian's Python, pip install {PROJECT} else"
         raise programs.Wrong(f"{sys.executable} has no module {MODULE}: {how}")

@@ -1,7 +1,7 @@
 """What is told of a document, as plex-check tells it."""
 import os
 import pathlib
-from typing import Callable, List, NamedTuple, Optional, Sequence
+from typing import List, NamedTuple, Optional, Sequence
 
 from plextools.limits import MOST_BYTES
 from plextools.lsp.documents import Document, Kind
@@ -13,15 +13,16 @@ from plextools.text.grammar import Node
 from plextools.text.reader import Frame
 from plextools.text.retelling import retold
 from plextools.text.signal_files import LineFile
-from plextools.text.tokens import Text
+from plextools.text.tokens import Text, Told
+from plextools.text.tree import Watch
 from plextools.text.warnings import Oddities
+from plextools.text.ways import odd_ways
 
 MOST = 100  # faults of each word that are told
 LARGEST_RETOLD = 2**16  # bytes of a text whose faults are told by their causes
 LARGEST_AT_ONCE = 2**16  # bytes of a text that is looked at as a whole at once
 # What can be told of a file of lines without its exchange text.
 ALONE = ("BADLINE", "FALLINGCOUNT", "BADAS", "BADRANGE", "TOOMANY", "TOOLARGE", "ODDAS")
-Watch = Callable[[], None]
 
 
 class Judgement(NamedTuple):
@@ -47,6 +48,9 @@ class Watched(Oddities):
     def found_statement(self, node: Node, shift: int, frame: Frame) -> None:
         self.watch()
         super().found_statement(node, shift, frame)
+
+    def ways_of(self, data: bytes) -> List[Told]:
+        return odd_ways(data, self.watch)
 
 
 def of_text(document: Document, watch: Watch) -> Judgement:

@@ -4,12 +4,9 @@ from typing import Dict, List, Optional
 
 from plextools.lsp.documents import Document, Kind, path_of, uri_of
 from plextools.lsp.index import Index, Known
-from plextools.lsp.judging import Judgement, Watch, exchange_path, of_line_file, of_text
+from plextools.lsp.judging import Judgement, exchange_path, of_line_file, of_text
 from plextools.limits import MOST_BYTES
-
-
-def nothing() -> None:
-    """Watches nothing: what goes on goes on to its end."""
+from plextools.text.tree import Watch, nothing
 
 
 class Workspace:
