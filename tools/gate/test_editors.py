@@ -162,15 +162,17 @@ def lines_of_examples() -> Iterator[Line]:
     for path in sorted(EXAMPLES.rglob("error.txt")):
         text = path.read_text()
         if not text.startswith("plex"):
-            file, rest = text.rstrip("\n").split(":", 1)
+            told, *_ = text.splitlines()
+            file, rest = told.split(":", 1)
             line = re.match(r"\d+(?=: )", rest)
             word, message = rest[line.end() + 2 if line else 1 :].split(": ", 1)
-            yield Line(text.rstrip("\n"), (file, line[0] if line else None, word, message))
+            yield Line(told, (file, line[0] if line else None, word, message))
 
 
 LINES = list(lines_of_examples())
 OTHER_LINES = [
     "plex: signls.txt: no such file",
+    "plex-check exchange.plex signals.txt tells all faults, with columns",
     "RELEASE F2 job 5 RANGE at REG:23 jobs 1 records 1",
     "JOBS 3",
 ]
