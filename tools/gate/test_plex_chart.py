@@ -19,6 +19,7 @@ from gate.makers import made_exchange
 from gate.oracle import machine as oracle_machine
 from plextools import programs
 from plextools.commands import chart as command
+from plextools.commands.command_words import BY_NAME
 from plextools.runs import choice
 from plextools.runs.observed import MOST_STEPS
 from plextools.runs.signals import lines_of
@@ -391,7 +392,11 @@ def test_choice_made_by_chance(
     assert numbers(case.run, first=first, last=last) == wanted["first"]
     if block != "outside":
         there = [job.number for job in jobs if block in blocks_in(job)]
-        assert numbers(case.run, blocks=[block]) == there
+        if there:
+            assert numbers(case.run, blocks=[block]) == there
+        else:  # what was sent there started no job
+            with pytest.raises(programs.Wrong, match=f"is in block {block}"):
+                numbers(case.run, blocks=[block])
     both = sorted({*wanted["signals"]} & {*wanted["forlopps"]})
     if both:
         asked = numbers(case.run, signals=[signal], forlopps=[int(forlopp[1:])])
@@ -474,6 +479,15 @@ def test_a_width() -> None:
     for width in (60, 80, 200):
         lines = lines_in(*files(ASK), "--width", str(width), "--values")
         assert max(map(len, lines)) <= width
+
+
+def test_many_lanes() -> None:
+    """Seven lanes fit a terminal of 80 columns; where not even narrow lanes fit, they stay wide."""
+    folder = EXAMPLES / "switch"
+    words = [str(folder / "exchange.plex"), str(folder / "wrong_call" / "signals.txt")]
+    words += ["--forlopp", "F1", "--width"]
+    widths = [max(map(len, lines_in(*words, width))) for width in ("60", "80", "200")]
+    assert widths[1] <= 80 < widths[0] <= widths[2] <= 200
 
 
 def test_colours() -> None:
@@ -693,9 +707,9 @@ def test_refused_texts_and_missing_files(tmp_path: pathlib.Path) -> None:
     assert got == (1, "", "plex-chart: the run has no jobs\n")
 
 
-def test_help_names_each_option() -> None:
+def test_help_tells_each_option() -> None:
     got = told("--help")
     assert got.status == 0
-    about, options = got.wrote.split("\npositional arguments:")
-    for option in re.findall(r"(?<=  )--?\w+", options):
-        assert option in about or option in ("-h", "--version"), option
+    options = got.wrote.partition("\noptions:\n")[2]
+    names = set(re.findall(r"^  (--?\w+)", options, re.MULTILINE)) - {"-h"} | {"--help"}
+    assert names == {option.names[-1] for option in BY_NAME["plex-chart"].options}

@@ -451,6 +451,8 @@ WRONG = (
     ("info", "it takes one of jobs, buffers"),
     ("info jobs now", "info jobs takes no word"),
     ("g", "it takes the number of a job, or `end`"),
+    ("g 10000001", "it takes a number from 1 to 10,000,000, and not 10000001"),
+    ("s 10001", "it takes a number from 1 to 10,000, and not 10001"),
     ("run fast", "it takes no word, and not fast"),
 )
 
@@ -482,6 +484,13 @@ def test_script(tmp_path: pathlib.Path) -> None:
     assert typed.status == 0 and typed.wrote.splitlines()[-1] == "DESK:17  EXIT;"
 
 
+def test_limit() -> None:
+    """The run ends after so many jobs."""
+    folder = GUIDE / "ask"
+    done = told(folder / "exchange.plex", folder / "signals.txt", "--limit", "2", "-e", "c")
+    assert done.status == 0 and "over after 2 jobs: END LIMIT" in done.wrote
+
+
 def test_table_of_periodic_signals() -> None:
     """With a table the run is that of both files, merged."""
     folder = GUIDE / "time_out"
@@ -508,10 +517,12 @@ def test_faults_of_files(tmp_path: pathlib.Path) -> None:
 def test_escapes(tmp_path: pathlib.Path) -> None:
     """What would steer a terminal is told by escapes: in comments, and in names of files."""
     text = (GUIDE / "ask" / "exchange.plex").read_bytes()
-    name = tmp_path / "a\x1b[31m"
-    name.write_bytes(text.replace(b"ENTER CALL", b"! \x1b[2J\x9b <script>\n  ENTER CALL"))
+    name = tmp_path / "a\x1b[31m\"' <script>"
+    comment = b"! \x1b[2J\x9b <script>\"' " + b"y" * 4096 + b"\n  ENTER CALL"
+    name.write_bytes(text.replace(b"ENTER CALL", comment))
     done = told(name, GUIDE / "ask" / "signals.txt", "-e", "l 18", "-e", "\x1b]0;x\x07")
-    assert done.status == 1 and "\x1b" not in done.wrote and r"\u{1b}[2J" in done.wrote
+    assert done.status == 1 and r"\u{1b}[2J" in done.wrote
+    assert not any(letter in done.wrote + done.complaint for letter in "\x1b\x07\x9b")
 
 
 def test_completion() -> None:

@@ -236,6 +236,16 @@ def test_a_status_and_an_error_that_differ_are_told(told: Caller) -> None:
     assert "FAIL: silent: it wrote to the standard error\n" in got.wrote
 
 
+def test_a_report_that_ends_otherwise_differs(told: Caller) -> None:
+    report = (EXAMPLES / METER / "report.txt").read_text()
+    told.case("cases/other", report_txt=report[:-1] + "?")
+    told.case("cases/short", report_txt=report[:-1])
+    got = told("cases")
+    assert got.status == 1
+    assert got.wrote.count("report.txt differs") == 2
+    assert got.wrote.endswith("0 passed, 2 failed\n")
+
+
 def test_a_case_without_a_report_fails(told: Caller) -> None:
     folder = told.case("case", report_txt=None)
     got = told("case")

@@ -4,32 +4,7 @@ Draws a sequence chart of the run of the exchange text E and the signal file S: 
 block, an arrow for each signal, with faults, releases and restarts. It writes text for a terminal,
 or a picture. Without a choice it draws the first 100 jobs.
 
-Which jobs:
-  --jobs N-M      those from N to M; also N alone, N- and -M
-  --forlopp FN    those of this forlopp; F0 is that of no forlopp
-  --block B       those that come to this block, by whatever signal
-  --signal G      those that this signal starts, or that send it
-  --around FAULT  the first job that ended by this fault, as RANGE, or by any one with FAULT, or the
-                  job of this number, with those around it
-  --context N     so many before and behind that job; 10 without it
-  --most N        so many at most; 100 without it
-  --limit N       the run ends after N jobs at the latest; 1,000,000 without it
-
 --forlopp, --block and --signal may stand several times: a job fits by any one of each kind.
-
-What of them:
-  --values        what they store, seize and free
-  --lines         the line of each statement as :12, and the line of the signal file as S:3
-
-How:
-  --ascii         without box characters
-  --svg           as SVG
-  --mermaid       for Mermaid
-  --msc           for mscgen
-  -o FILE         writes a file; its ending tells how: .svg, .png (by rsvg-convert), .mmd, .msc, or
-                  else text
-  --width N       about so many columns, or pixels of a picture
-  --color WHEN    always, never, or auto, which is on a terminal alone
 """
 import argparse
 import os
@@ -42,6 +17,7 @@ from typing import Callable, Iterable, Iterator, List, NamedTuple, Optional, Tup
 
 from plextools import limits, programs, progress, tables
 from plextools.commands import outputs
+from plextools.commands.command_words import described
 from plextools.runs import check, choice
 from plextools.runs.observed import Among, Observed
 from plextools.runs.signals import lines_of
@@ -179,10 +155,10 @@ def parser() -> programs.Words:
     forms = words.add_mutually_exclusive_group()
     for form in (Form.ASCII, Form.SVG, Form.MERMAID, Form.MSC):
         forms.add_argument(f"--{form.value}", dest="form", action="store_const", const=form)
-    words.add_argument("-o", dest="file", metavar="FILE")
+    words.add_argument("-o", dest="file")
     words.add_argument("--width", type=number_in(*WIDTHS))
     words.add_argument("--color", choices=("auto", "always", "never"), default="auto")
-    return words
+    return described(words)
 
 
 def form_of(given: Given) -> Form:

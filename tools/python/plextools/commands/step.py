@@ -5,10 +5,6 @@ debugger does: by statements, signals and jobs, to a line, or to where a name is
 table of periodic signals T the run is that of both, merged. Commands are read from the standard
 input; help tells of them.
 
-  -x FILE     takes the commands of a file, a line each; ! begins a comment
-  -e COMMAND  takes a command; -e and -x may stand several times, and are taken in their order
-  --limit N   the run ends after N jobs at the latest; 1,000,000 without it
-
 With -x or -e the session ends behind the last of these commands, and what it writes depends on the
 files alone. A wrong command ends it there, with the status 1.
 """
@@ -21,6 +17,7 @@ from typing import Iterable, Iterator, List, NamedTuple, Optional
 
 from plextools import limits, programs, tables
 from plextools.commands import check as checker
+from plextools.commands.command_words import described
 from plextools.commands.step_session import BY_NAME, INFOS, Ended, Refused, Session
 from plextools.runs import check, choice
 from plextools.runs.signals import lines_of
@@ -63,14 +60,12 @@ def parser() -> programs.Words:
     words.add_argument("exchange", metavar="E")
     words.add_argument("signals", metavar="S")
     words.add_argument("table", metavar="T", nargs="?")
-    words.add_argument(
-        "-x", dest="scripts", action="append", type=lambda word: Source(True, word), metavar="FILE"
-    )
+    words.add_argument("-x", dest="scripts", action="append", type=lambda word: Source(True, word))
     words.add_argument("-e", dest="scripts", action="append", type=lambda word: Source(False, word))
     words.add_argument(
         "--limit", type=programs.number_to(limits.MOST_JOBS), default=limits.USUAL_JOBS
     )
-    return words
+    return described(words)
 
 
 def told_faults(names: List[str]) -> bool:

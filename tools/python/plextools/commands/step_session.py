@@ -6,6 +6,7 @@ tells. `Refused` says what is wrong with one, and `Ended` that it was the last o
 import re
 from typing import Callable, Dict, FrozenSet, Iterator, List, NamedTuple, Optional, Sequence, Set
 
+from plextools.limits import MOST_JOBS
 from plextools.runs import choice
 from plextools.runs.named import Data, Names, Spot, Unknown
 from plextools.runs.searches import NO_DEPTH, Place, Stop, Watched, Wish
@@ -94,12 +95,12 @@ class Session:
             raise Refused(f"it takes no word, and not {printed(words)}")
 
     @staticmethod
-    def times(words: str) -> int:
-        """How many times a motion is made."""
+    def times(words: str, most: int = MOST_TIMES) -> int:
+        """How many times a motion is made, or another number."""
         if not words:
             return 1
-        if not NUMBER.fullmatch(words) or not 1 <= int(words) <= MOST_TIMES:
-            raise Refused(f"it takes a number from 1 to {MOST_TIMES:,}, and not {printed(words)}")
+        if not NUMBER.fullmatch(words) or not 1 <= int(words) <= most:
+            raise Refused(f"it takes a number from 1 to {most:,}, and not {printed(words)}")
         return int(words)
 
     # motions
@@ -218,7 +219,7 @@ class Session:
         """To a job by its number, or to the end of the run."""
         if words.upper() == "END":
             return self.ended()
-        number = self.times(words) if words else 0
+        number = self.times(words, MOST_JOBS) if words else 0
         if not number:
             raise Refused("it takes the number of a job, or `end`")
         return self.to_job(number)

@@ -18,6 +18,7 @@ from types import FrameType
 from typing import List, Optional, Sequence
 
 from plextools import files, programs, progress
+from plextools.commands.command_words import described
 from plextools.runs import case_runs, cases
 from plextools.show import outcomes as shown
 from plextools.show.differences import quoted
@@ -31,35 +32,26 @@ def parser() -> argparse.ArgumentParser:
     """The words of the command."""
     words = programs.Words(__doc__)
     words.add_argument("folders", metavar="FOLDER", nargs="+", help="where the cases are")
-    words.add_argument(
-        "-j", "--jobs", metavar="N", type=programs.number_to(MOST_JOBS), help="runs N cases at once"
-    )
+    words.add_argument("-j", "--jobs", type=programs.number_to(MOST_JOBS))
     words.add_argument(
         "-k",
         dest="parts",
-        metavar="TEXT",
         action="append",
-        help="runs the cases whose names have TEXT in them",
     )
-    words.add_argument("--list", action="store_true", help="lists the cases, and runs none")
-    words.add_argument("-v", "--verbose", action="store_true", help="tells passed cases too")
-    words.add_argument(
-        "--update", action="store_true", help="takes what the programs write into the cases' files"
-    )
+    words.add_argument("--list", action="store_true")
+    words.add_argument("-v", "--verbose", action="store_true")
+    words.add_argument("--update", action="store_true")
     words.add_argument(
         "--no-faults",
         action="store_true",
-        help="fails a case whose report has a RELEASE or a RESTART",
     )
-    words.add_argument("--junit", metavar="F", help="writes the outcomes into F as JUnit XML")
+    words.add_argument("--junit")
     words.add_argument(
         "--timeout",
-        metavar="S",
         type=programs.number_to(MOST_SECONDS),
         default=programs.LONGEST,
-        help="ends a run after S seconds; %(default)s without it",
     )
-    return words
+    return described(words)
 
 
 def main() -> int:
