@@ -1,6 +1,8 @@
-"""The table of words that zsh and fish complete, beside --help, the manual pages, and what bash
-completes; and the files that are made of it.
+"""The table of words that shells complete and --help tells, beside --help, the manual pages, and
+what bash completes; the files that are made of it; and what --version tells.
 """
+import importlib
+import os
 import pathlib
 import re
 import shutil
@@ -17,9 +19,11 @@ MAINTAIN = harness.ROOT / "tools" / "maintain"
 PLACE = MAINTAIN / "completions"
 OPTION = re.compile(r"(?<![\w-])--?[a-z][a-z-]*")
 PAGE_OPTION = re.compile(r"Fl (-?[a-z-]+)")
+PAGE_VALUE = re.compile(r"Fl (-?[a-z-]+) Ar ([a-z]+)")
 ALWAYS = {"-h", "--help", "--version"}  # a manual page need not have them
 WITH_OPTIONS = [command for command in COMMANDS if command.options]
 SHELLS = {"zsh": ["_plex"], "fish": ["*.fish"], "bash": ["*.bash"]}
+OF_BASH = ("plex", "plex-merge", "plex-conflicts", "plex-tools")
 LONGEST = 60
 
 
@@ -62,29 +66,52 @@ def offered(command: str, *words: str) -> List[str]:
 
 def is_for(path: pathlib.Path, command: str) -> bool:
     """Whether a file has what bash completes for a command."""
-    last = path.read_text().strip().rpartition("\n")[2]
-    return command in last.split()
+    lines = path.read_text().splitlines()
+    return any(line.startswith("complete -F ") and line.endswith(f" {command}") for line in lines)
 
 
-@pytest.mark.parametrize("command", WITH_OPTIONS, ids=name_of)
-def test_help(command: Command) -> None:
-    """The options are those that --help tells."""
+def written(command: Command, word: str) -> str:
+    """What a tool writes for one word."""
     tool = harness.ROOT / "tools" / "bin" / command.name
     got = subprocess.run(
-        [sys.executable, tool, "--help"],
+        [sys.executable, tool, word],
         capture_output=True,
         text=True,
         timeout=LONGEST,
         check=True,
+        env={**os.environ, "COLUMNS": "1000"},
     )
-    told = set(OPTION.findall(got.stdout)) | ALWAYS
-    assert options(command) | ALWAYS == told
+    return got.stdout
+
+
+@pytest.mark.parametrize("command", WITH_OPTIONS, ids=name_of)
+def test_help(command: Command) -> None:
+    """The options are those that --help tells, with what the head of the command says of it."""
+    told = written(command, "--help")
+    assert options(command) | ALWAYS == set(OPTION.findall(told)) | ALWAYS
+    words = " ".join(told.split())
+    for option in command.options:
+        value = f" {option.value.upper()}" if option.value else ""
+        assert option.names[0] in ALWAYS or f"{option.names[-1]}{value} " in words
+        assert option.names[0] in ALWAYS or option.told in words
+    module = importlib.import_module(f"plextools.commands.{command.name.partition('-')[2]}")
+    assert (module.__doc__ or "").split("\n", 2)[2].strip() in told
+
+
+@pytest.mark.parametrize("command", WITH_OPTIONS, ids=name_of)
+def test_version(command: Command) -> None:
+    """The version is that of the sources."""
+    assert written(command, "--version") == f"{command.name} {harness.version()}\n"
 
 
 @pytest.mark.parametrize("command", WITH_OPTIONS, ids=name_of)
 def test_page(command: Command) -> None:
-    """The options are those of the manual page."""
+    """The options are those of the manual page, and what stands behind each."""
     assert options(command) | ALWAYS == in_page(page(command.name)) | ALWAYS
+    values = dict(PAGE_VALUE.findall(page(command.name)))
+    for option in command.options:
+        for name in set(option.names) - ALWAYS:
+            assert values.get(name[1:], "") == option.value, name
 
 
 @pytest.mark.parametrize("command", WITH_OPTIONS, ids=name_of)
@@ -95,9 +122,9 @@ def test_bash(command: Command) -> None:
 
 @pytest.mark.parametrize("command", WITH_OPTIONS, ids=name_of)
 def test_values(command: Command) -> None:
-    """bash offers the same words behind an option, where they are not numbers."""
+    """bash offers the same words behind an option."""
     for option in command.options:
-        if option.offered and not option.offered[0].isdigit():
+        if option.offered:
             for name in option.names:
                 assert set(offered(command.name, name, "")) == set(option.offered), name
 
@@ -113,19 +140,19 @@ def test_commands_of_plex() -> None:
     known = {name for command in OF_PLEX for name in options(command)}
     assert known == in_page(page("plex"))
     for command in OF_PLEX:
-        files = {"run": 2, "single": 2, "timed": 3, "change": 4, "trace": 3}.get(command.name, 1)
-        got = offered("plex", command.name, *["1"] * files, "-")
+        got = offered("plex", command.name, *["1"] * command.files, "-")
         assert set(got) == options(command), command.name
 
 
 def test_files() -> None:
-    """The files of zsh and fish are the ones that are made of the table."""
+    """The files of shells are the ones that are made of the table."""
     got = subprocess.run(
         [sys.executable, MAINTAIN / "completion", "--check"], capture_output=True, timeout=LONGEST
     )
     assert (got.returncode, got.stdout) == (0, b"")
-    made = {path.name for path in PLACE.iterdir() if path.suffix != ".bash"}
-    assert made == {"_plex", *(f"{one.name}.fish" for one in [COMMANDS[0], *WITH_OPTIONS])}
+    made = {path.name for path in PLACE.iterdir()}
+    fish = {f"{one.name}.fish" for one in [COMMANDS[0], *WITH_OPTIONS]}
+    assert made == {"_plex", *fish, *(f"{name}.bash" for name in OF_BASH)}
 
 
 @pytest.mark.parametrize("shell", SHELLS)

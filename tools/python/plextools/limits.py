@@ -41,3 +41,12 @@ NUMBERS = 2**32
 LARGEST_NUMBER = NUMBERS - 1
 MOST_PERIODIC_SIGNALS = 1_000_000
 USUAL_JOBS = 1_000_000
+
+# How many instructions a job makes in the mean at least where plex hands it to another worker: so
+# many, and so many more by the number of workers. In the place of them documents and tools say how
+# many statements that is, about, with USUAL_WORKERS.
+LEAST_LENGTH = 10_000
+LENGTH_ALONE = 32_000
+USUAL_WORKERS = 4
+INSTRUCTIONS_OF_STATEMENT = 6
+LONG_JOB = (LEAST_LENGTH + LENGTH_ALONE // USUAL_WORKERS) // INSTRUCTIONS_OF_STATEMENT

@@ -15,7 +15,7 @@ import shutil
 import subprocess
 import sys
 import threading
-from typing import Callable, Iterator, NamedTuple, NoReturn, Sequence, Tuple
+from typing import Callable, Iterator, Mapping, NamedTuple, NoReturn, Sequence, Tuple
 
 from plextools import VERSION, tables
 
@@ -229,8 +229,15 @@ class Words(argparse.ArgumentParser):
             description=about.split("\n", 2)[2],
             formatter_class=argparse.RawDescriptionHelpFormatter,
         )
-        name = self.line.split()[0]
-        self.add_argument("--version", action="version", version=f"{name} {VERSION}")
+        self.name = self.line.split()[0]
+        self.add_argument("--version", action="version", version=f"{self.name} {VERSION}")
+
+    def tell_options(self, told: Mapping[str, Tuple[str, str]]) -> None:
+        """Gives options, by their names, what stands behind them and what --help tells of them."""
+        for action in self._actions:
+            for name in told.keys() & {*action.option_strings}:
+                value, action.help = told[name]
+                action.metavar = value or None
 
     def error(self, message: str) -> NoReturn:
         raise Wrong(f"{tables.printed(message)}\nusage: {self.line}")

@@ -1,90 +1,206 @@
-"""The words and options of all commands, for what zsh and fish complete.
+"""The words and options of all commands: what --help tells of options, and what shells complete.
 
 `test_completion.py` of the gate compares them with the manual pages, with what --help says, and
 with what bash completes.
 """
-from typing import NamedTuple, Tuple
+import textwrap
+from typing import Callable, Iterator, NamedTuple, Tuple, Union
 
-from plextools.text.change import CHANGES, NOTES
-from plextools.text.explanations import explanations
-from plextools.text.warnings import WARNINGS
+from plextools import programs
 
 FILES, FOLDERS, NOTHING = "files", "folders", "nothing"
 
 
 class Option(NamedTuple):
     """An option: its names, what it does, what stands behind it, and the words that are offered
-    for that. Nothing stands behind one without `value`.
+    for that, or what gives them; what --help tells beside that. Nothing stands behind one without
+    `value`.
     """
 
     names: Tuple[str, ...]
     does: str
     value: str = ""
-    offered: Tuple[str, ...] = ()
+    words: Union[Tuple[str, ...], Callable[[], Tuple[str, ...]]] = ()
     takes_file: bool = False
+    more: str = ""
+
+    @property
+    def offered(self) -> Tuple[str, ...]:
+        return self.words() if callable(self.words) else self.words
+
+    @property
+    def told(self) -> str:
+        """What --help tells of it."""
+        return self.does + self.more
 
 
 class Command(NamedTuple):
-    """A command, or one of plex: its name, what it does, its options, and what else it takes."""
+    """A command, or one of plex: its name, what it does, its options, what else it takes, and how
+    many of that, or 0 where that is not fixed.
+    """
 
     name: str
     does: str
     options: Tuple[Option, ...] = ()
     takes: str = FILES
+    files: int = 0
 
 
-COUNTS = ("1", "2", "4", "8", "16", "32", "64")
-COLOUR = Option(("--color",), "whether there are colours", "when", ("always", "never", "auto"))
+def explained() -> Tuple[str, ...]:
+    """The words that plex-check explains."""
+    from plextools.text.explanations import explanations
+
+    return tuple(explanations())
+
+
+def switched_off() -> Tuple[str, ...]:
+    """The words that plex-check leaves out."""
+    from plextools.text.change import CHANGES, NOTES
+    from plextools.text.warnings import WARNINGS
+
+    return (*WARNINGS, *CHANGES, *NOTES)
+
+
+def option(
+    name: str, does: str, value: str = "", more: str = "", takes_file: bool = False
+) -> Option:
+    """An option of one name, for whose value no words are offered."""
+    return Option((name,), does, value, (), takes_file, more)
+
+
+COUNTS, ENDS = ("1", "2", "4", "8", "16", "32", "64"), ("1000", "1000000", "10000000")
+COLOUR = Option(
+    ("--color",),
+    "whether there are colours",
+    "when",
+    ("always", "never", "auto"),
+    more=": always, never, or auto, which is on a terminal where NO_COLOR is not set",
+)
 WORKERS = Option(("--workers",), "the number of workers", "n", COUNTS)
-JOBS = Option(("--jobs",), "ends the run after so many jobs", "n", ("1000", "1000000", "10000000"))
-CERTIFICATE = Option(("--cert",), "a certificate of the exchange", "certificate", (), True)
-JSON = Option(("--json",), "writes JSON")
-HELP, VERSION = Option(("--help",), "writes help"), Option(("--version",), "writes the version")
+JOBS = Option(("--jobs",), "ends the run after so many jobs", "n", ENDS)
+LIMIT = Option(
+    ("--limit",), "ends the run after so many jobs", "n", ENDS, more="; 1,000,000 without it"
+)
+CERTIFICATE = option("--cert", "a certificate of the exchange", "certificate", takes_file=True)
+JSON = option("--json", "writes JSON")
+HELP, VERSION = option("--help", "writes this text"), option("--version", "writes the version")
 FAULTS = tuple(
     "FAULT POINTER RANGE DIVIDE NOTOWN NOFORLOPP CHAIN BADEND DEPTH SENDS BUDGET".split()
 )
-EXPLAINED = tuple(explanations())
-SWITCHED_OFF = (*WARNINGS, *CHANGES, *NOTES)
 
 OF_PLEX = (
-    Command("run", "runs an exchange with several workers", (WORKERS, JOBS, CERTIFICATE)),
-    Command("single", "runs an exchange job by job", (JOBS,)),
-    Command("timed", "runs it with a table of periodic signals", (WORKERS, JOBS)),
-    Command("change", "runs it, and another exchange from some job on", (WORKERS, JOBS)),
-    Command("trace", "runs it, and shows jobs", (JOBS,)),
-    Command("analyse", "tells which entries may run at once"),
-    Command("certify", "writes a certificate of the analysis"),
-    Command("list", "writes the code of an exchange"),
-    Command("load", "writes an exchange and signals as a load", (), NOTHING),
+    Command("run", "runs an exchange with several workers", (WORKERS, JOBS, CERTIFICATE), FILES, 2),
+    Command("single", "runs an exchange job by job", (JOBS,), FILES, 2),
+    Command("timed", "runs it with a table of periodic signals", (WORKERS, JOBS), FILES, 3),
+    Command("change", "runs it, and another exchange from some job on", (WORKERS, JOBS), FILES, 4),
+    Command("trace", "runs it, and shows jobs", (JOBS,), FILES, 3),
+    Command("analyse", "tells which entries may run at once", (), FILES, 1),
+    Command("certify", "writes a certificate of the analysis", (), FILES, 1),
+    Command("list", "writes the code of an exchange", (), FILES, 1),
+    Command("load", "writes an exchange and signals as a load", (), NOTHING, 1),
+)
+LOADS = ("1", "10", "100", "1000", "10000")  # what is offered for plex load
+CHECK_OPTIONS = (
+    Option(
+        ("--explain",),
+        "tells what a word means",
+        "word",
+        explained,
+        more=", with a wrong and a right example",
+    ),
+    option("--long", "writes the form of a terminal", more=", wherever the output goes"),
+    option("--short", "writes a line for each fault", more=", also on a terminal"),
+    option("--json", "writes a record of JSON for each fault", more=", each on a line"),
+    option("--sarif", "writes a document of SARIF 2.1.0"),
+    COLOUR,
+    option("--werror", "ends with 1 where there are warnings and no faults"),
+    Option(
+        ("--no",),
+        "leaves the warnings or notes of a word out",
+        "word",
+        switched_off,
+        more="; WORD,WORD leaves several out",
+    ),
+    Option(
+        ("--most",),
+        "tells at most so many faults or warnings of each word in a file",
+        "n",
+        ("1", "100", "1000", "100000"),
+        more="; 1000 without it",
+    ),
+    option("--change", "compares two exchange texts"),
+    option("--help", "writes this text", more=", and all words that --no takes"),
+    VERSION,
+)
+CHART_OPTIONS = (
+    option(
+        "--jobs", "shows the jobs of a range", "range", ", as 10-20; also 10 alone, 10- and -20"
+    ),
+    option("--forlopp", "shows the jobs of a forlopp", "number", "; F0 is that of no forlopp"),
+    option("--block", "shows the jobs that come to a block", "name", ", by whatever signal"),
+    option("--signal", "shows the jobs that a signal starts, or that send it", "name"),
+    Option(
+        ("--around",),
+        "shows the first job that ended by a fault",
+        "fault",
+        FAULTS,
+        more=", as RANGE, or by any one with FAULT, or the job of a number, with those around it",
+    ),
+    Option(
+        ("--context",),
+        "so many jobs before and behind that one",
+        "n",
+        ("10", "100", "1000"),
+        more="; 10 without it",
+    ),
+    Option(
+        ("--most",),
+        "shows so many jobs at most",
+        "n",
+        ("10", "100", "1000"),
+        more="; 100 without it",
+    ),
+    LIMIT,
+    option("--values", "tells what jobs store, seize and free"),
+    option(
+        "--lines",
+        "tells the line of each statement",
+        "",
+        " as :12, and the line of the signal file as S:3",
+    ),
+    option("--ascii", "draws without box characters"),
+    option("--svg", "draws as SVG"),
+    option("--mermaid", "writes for Mermaid"),
+    option("--msc", "writes for mscgen"),
+    option(
+        "-o",
+        "writes a file",
+        "file",
+        "; its ending tells how: .svg, .png (by rsvg-convert), .mmd, .msc, or else text",
+        True,
+    ),
+    Option(
+        ("--width",), "about so many columns, or pixels of a picture", "n", ("80", "100", "1000")
+    ),
+    COLOUR,
+    HELP,
+    VERSION,
 )
 COMMANDS = (
     Command("plex", "compiles and runs exchange texts"),
-    Command("plex-merge", "makes one signal file of a signal file and a table"),
-    Command("plex-conflicts", "tells all conflicts of entries"),
-    Command(
-        "plex-check",
-        "tells all faults of files, and what is odd in them",
-        (
-            Option(("--explain",), "explains a word", "word", EXPLAINED),
-            Option(("--long",), "shows faults in their lines"),
-            Option(("--short",), "writes a line for each fault"),
-            Option(("--json",), "writes a record of JSON for each fault"),
-            Option(("--sarif",), "writes a document of SARIF"),
-            COLOUR,
-            Option(("--werror",), "warnings are an error"),
-            Option(("--no",), "leaves warnings of a word out", "word", SWITCHED_OFF),
-            Option(("--most",), "tells so many of each word", "n", ("1", "100", "1000", "100000")),
-            Option(("--change",), "compares two exchange texts"),
-            HELP,
-            VERSION,
-        ),
-    ),
+    Command("plex-merge", "makes one signal file of a signal file and a table", (), FILES, 3),
+    Command("plex-conflicts", "tells all conflicts of entries", (), FILES, 1),
+    Command("plex-check", "tells all faults of files, and what is odd in them", CHECK_OPTIONS),
     Command(
         "plex-format",
         "gives exchange texts their one layout",
         (
-            Option(("--check",), "names files with another layout"),
-            Option(("--diff",), "tells what would change"),
+            option(
+                "--check", "names the files that have another layout", more=", and rewrites none"
+            ),
+            option(
+                "--diff", "tells what would change as unified diffs", more=", and rewrites no file"
+            ),
             HELP,
             VERSION,
         ),
@@ -93,8 +209,8 @@ COMMANDS = (
         "plex-why",
         "tells which statements keep jobs apart",
         (
-            Option(("--all",), "tells all conflicts"),
-            Option(("--diff",), "compares two exchange texts"),
+            option("--all", "lists all statements", more=", and not the first few of each kind"),
+            option("--diff", "compares two exchange texts"),
             JSON,
             HELP,
             VERSION,
@@ -104,18 +220,24 @@ COMMANDS = (
         "plex-load",
         "tells what workers bring for a load",
         (
-            WORKERS,
+            Option(
+                ("--workers",),
+                "the number of workers",
+                "n",
+                COUNTS,
+                more="; several may stand there",
+            ),
             JOBS,
             Option(("--skip",), "leaves so many first jobs out", "n", ("10", "100", "1000")),
-            Option(("--dense",), "takes each line to be there in time"),
-            Option(("--precision",), "tells which pairs of jobs commute"),
-            Option(("--diff",), "compares two loads"),
-            Option(("--cost-job",), "what handing out a job costs", "n"),
-            Option(("--cost-send",), "what a signal costs", "n"),
-            Option(("--cost-sync",), "what a synchronised access costs", "n"),
-            Option(("--statement",), "what a statement takes", "ns"),
-            Option(("--machines",), "the costs of several machines", "file", (), True),
-            Option(("--trace-json",), "writes the jobs as a trace of Chrome", "file", (), True),
+            option("--dense", "takes each line to be there in time"),
+            option("--precision", "tells which pairs of jobs commute"),
+            option("--diff", "compares two loads"),
+            option("--cost-job", "what handing out a job costs", "n"),
+            option("--cost-send", "what a signal costs", "n"),
+            option("--cost-sync", "what a synchronised access costs", "n"),
+            option("--statement", "how many ns a statement takes", "ns"),
+            option("--machines", "reads the costs of several machines", "file", takes_file=True),
+            option("--trace-json", "writes the jobs as a trace of Chrome", "file", takes_file=True),
             JSON,
             HELP,
             VERSION,
@@ -125,9 +247,21 @@ COMMANDS = (
         "plex-step",
         "steps through a run, forward and backward",
         (
-            Option(("-x",), "takes the commands of a file", "file", (), True),
-            Option(("-e",), "takes a command", "command"),
-            Option(("--limit",), "ends the run after so many jobs", "n", JOBS.offered),
+            option(
+                "-x",
+                "takes the commands of a file",
+                "file",
+                ", a line each; ! begins a comment",
+                True,
+            ),
+            Option(
+                ("-e",),
+                "takes a command",
+                "command",
+                ("c", "s", "n", "where", "help", "quit"),
+                more="; -e and -x may stand several times, and are taken in their order",
+            ),
+            LIMIT,
             HELP,
             VERSION,
         ),
@@ -135,15 +269,19 @@ COMMANDS = (
     Command(
         "plex-lsp",
         "tells faults and meanings in an editor",
-        (Option(("--stdio",), "talks over the standard input and output"), HELP, VERSION),
+        (
+            option("--stdio", "talks over the standard input and output", more=", as without it"),
+            HELP,
+            VERSION,
+        ),
         NOTHING,
     ),
     Command(
         "plex-page",
         "shows what keeps jobs apart on a page",
         (
-            Option(("-o",), "the page that is written", "page", (), True),
-            WORKERS,
+            option("-o", "the page that is written", "page", takes_file=True),
+            WORKERS._replace(more="; 4 without it"),
             JOBS,
             HELP,
             VERSION,
@@ -154,41 +292,43 @@ COMMANDS = (
         "runs folders of cases, and compares their reports",
         (
             Option(("-j", "--jobs"), "runs so many cases at once", "n", COUNTS),
-            Option(("-k",), "runs cases with a text in their names", "text"),
-            Option(("--list",), "lists the cases"),
+            option("-k", "runs the cases with a text in their names", "text"),
+            option("--list", "lists the cases", more=", and runs none"),
             Option(("-v", "--verbose"), "tells passed cases too"),
-            Option(("--update",), "takes what is written into the cases"),
-            Option(("--no-faults",), "fails a case with a RELEASE or a RESTART"),
-            Option(("--junit",), "writes JUnit XML", "file", (), True),
-            Option(("--timeout",), "ends a run after so many seconds", "s", ("10", "60", "600")),
+            option("--update", "takes what the programs write into the files of the cases"),
+            option("--no-faults", "fails a case whose report has a RELEASE or a RESTART"),
+            option(
+                "--junit", "writes the outcomes into a file as JUnit XML", "file", takes_file=True
+            ),
+            Option(
+                ("--timeout",),
+                "ends a run after so many seconds",
+                "s",
+                ("10", "60", "600"),
+                more="; 600 without it",
+            ),
             HELP,
             VERSION,
         ),
         FOLDERS,
     ),
-    Command(
-        "plex-chart",
-        "draws the sequence chart of a run",
-        (
-            Option(("--jobs",), "shows the jobs of a range", "range"),
-            Option(("--forlopp",), "shows the jobs of a forlopp", "number"),
-            Option(("--block",), "shows the jobs of a block", "name"),
-            Option(("--signal",), "shows the jobs of a signal", "name"),
-            Option(("--around",), "shows the first fault and what is around it", "fault", FAULTS),
-            Option(("--context",), "so many jobs around it", "n", ("10", "100", "1000")),
-            Option(("--most",), "shows so many jobs", "n", ("10", "100", "1000")),
-            Option(("--limit",), "ends the run after so many jobs", "n", JOBS.offered),
-            Option(("--values",), "shows what is stored"),
-            Option(("--lines",), "shows the lines of the text"),
-            Option(("--ascii",), "draws in ASCII"),
-            Option(("--svg",), "draws as SVG"),
-            Option(("--mermaid",), "writes for Mermaid"),
-            Option(("--msc",), "writes for msc"),
-            Option(("-o",), "the file that is written", "file", (), True),
-            Option(("--width",), "columns of the chart", "n", ("80", "100", "1000")),
-            COLOUR,
-            HELP,
-            VERSION,
-        ),
-    ),
+    Command("plex-chart", "draws the sequence chart of a run", CHART_OPTIONS),
 )
+BY_NAME = {command.name: command for command in COMMANDS}
+WIDEST, WIDTH = 15, 100  # columns of the options and of lines of plex-check --help
+
+
+def described(words: programs.Words) -> programs.Words:
+    """The words of a tool, of whose options --help tells what stands here."""
+    told = {name: one for one in BY_NAME[words.name].options for name in one.names}
+    words.tell_options({name: (one.value.upper(), one.told) for name, one in told.items()})
+    return words
+
+
+def rows(command: Command) -> Iterator[str]:
+    """The options of a command, and what each does."""
+    for one in command.options:
+        head = ", ".join(one.names) + (f" {one.value.upper()}" if one.value else "")
+        yield textwrap.fill(
+            f"  {head:<{WIDEST}} {one.told}", WIDTH, subsequent_indent=" " * (WIDEST + 3)
+        )
