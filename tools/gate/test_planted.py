@@ -8,12 +8,16 @@ from gate.planted import tables
 from gate.planted.checks import CHECKS, TESTS, file_of
 from gate.planted.planted import Edit, Planted
 from plextools import programs
+from plextools.commands.command_words import COMMANDS, OF_PLEX, Command
 
 ROOT = pathlib.Path(__file__).resolve().parents[2]
 README = ROOT / "tools" / "gate" / "planted" / "README.md"
 GATE = ROOT / ".ci" / "run"
 WHOLE = ("not alone", "alone")  # the gate runs all tests, in two parts
-LEAST = 165
+LEAST = 240
+OPTION = re.compile(r"--?[a-z][a-z-]*")
+QUOTED = re.compile(r"`([^`]*)`")
+SHARED = {"--help", "--version"}  # what all tools take in the same way
 
 
 def test_names() -> None:
@@ -36,6 +40,36 @@ def test_row(row: Planted) -> None:
         assert row.program in programs.BY_NAME
 
 
+def planted_in(tool: str) -> set[str]:
+    """The commands and the options of a tool that rows are about: those which stand in what is
+    told of them, in backquotes.
+    """
+    found: set[str] = set()
+    for row in tables.PLANTED:
+        if tool == (row.tool if isinstance(row, Edit) else row.program):
+            found.update(() if isinstance(row, Edit) else row.commands)
+            found.update(OPTION.findall(" ".join(QUOTED.findall(row.told))))
+    return found
+
+
+@pytest.mark.parametrize("command", COMMANDS, ids=lambda one: str(one.name))
+def test_options(command: Command) -> None:
+    """Each tool has rows, and so has each option; of plex each command and each of their
+    options.
+    """
+    assert any(command.name in (row.of.split("`")) for row in tables.PLANTED)
+    parts = OF_PLEX if command.name == "plex" else [command]
+    needed = [set(option.names) - SHARED for part in parts for option in part.options]
+    needed += [{part.name} for part in parts if part is not command]
+    found = planted_in(command.name)
+    assert not [names for names in needed if names and not names & found]
+
+
+def test_shared_options() -> None:
+    """What all tools take in the same way has rows."""
+    assert SHARED <= {word for one in COMMANDS for word in planted_in(one.name)}
+
+
 @pytest.mark.parametrize("name", CHECKS)
 def test_check(name: str) -> None:
     """A check is one that the gate runs."""
@@ -43,7 +77,7 @@ def test_check(name: str) -> None:
     if name in TESTS:
         assert (ROOT / file_of(name)).is_file()
         for part in WHOLE:
-            assert re.search(rf'^step pytest-3 .*-m "?{part}"? tools/gate$', text, re.M)
+            assert re.search(rf'^ *step pytest-3 .*-m "?{part}"? tools/gate$', text, re.M)
     else:
         assert f"step {' '.join(CHECKS[name])}\n" in text
 

@@ -119,7 +119,7 @@ OF_ANALYSES = [
     plex(
         "other_fact_missing",
         "run",
-        "a fact that is missing is told of the next entry",
+        "a fact that is missing is reported for the next entry",
         "analyses",
         calls.counted(rb"^CERTIFICATE MISSING FACT (\d+) "),
         "-k",
@@ -131,11 +131,17 @@ OF_ANALYSES = [
     plex(
         "any_certificate_taken",
         "run",
-        "a certificate that is refused is taken",
+        "`--cert` takes a certificate that is refused",
         "analyses",
         takes_any_certificate,
     ),
 ]
+
+OF_WORKERS = (
+    OTHER_WORKERS,
+    "fuzz",
+    calls.only_if(has_other_workers, calls.swapped(rb"^VAR ")),
+)
 
 OF_RUNS = [
     plex(
@@ -231,7 +237,7 @@ OF_RUNS = [
         "conformance",
         calls.status_becomes((4,), 0),
     ),
-    plex("one_job_more", ALL_RUNS, "--jobs allows one job more", "conformance", one_job_more),
+    plex("one_job_more", ALL_RUNS, "`--jobs` allows one job more", "conformance", one_job_more),
     plex(
         "report_without_newline",
         ALL_RUNS,
@@ -278,24 +284,8 @@ OF_RUNS = [
         "--cases",
         "20",
     ),
-    plex(
-        "other_workers",
-        "run",
-        OTHER_WORKERS,
-        "fuzz",
-        calls.only_if(has_other_workers, calls.swapped(rb"^VAR ")),
-        "--cases",
-        "20",
-    ),
-    plex(
-        "other_workers_timed",
-        "timed change",
-        OTHER_WORKERS,
-        "fuzz",
-        calls.only_if(has_other_workers, calls.swapped(rb"^VAR ")),
-        "--cases",
-        "20",
-    ),
+    plex("other_workers", "run", *OF_WORKERS, "--cases", "20"),
+    plex("other_workers_timed", "timed change", *OF_WORKERS, "--cases", "20"),
     plex(
         "certified_run_differs",
         "run",
@@ -501,7 +491,7 @@ OF_FAULTS = [
         "run",
         "a sentence of a fault lacks its last word",
         "hostile",
-        calls.complained(rb" \S+\n\Z", b"\n"),
+        calls.complained(rb" \S+\n(?=plex-check |\Z)", b"\n"),
         "-k",
         "signal and files:",
     ),
@@ -510,7 +500,7 @@ OF_FAULTS = [
         "run",
         "a sentence of a fault ends in a period",
         "examples",
-        calls.complained(rb"([a-z])\n\Z", rb"\1.\n"),
+        calls.complained(rb"([a-z])\n(?=plex-check |\Z)", rb"\1.\n"),
     ),
     plex(
         "far_signal_line",
@@ -592,7 +582,7 @@ OF_FAULTS = [
     plex(
         "progress_lost",
         "timed single change",
-        "nothing is told of a run that goes on",
+        "nothing is reported while a run goes on",
         "progress_line",
         calls.complained(rb"\rplex: \d+ jobs.*?\x1b\[K", b""),
     ),
@@ -609,7 +599,7 @@ def cost(name: str, command: str, told: str, alter: calls.Alter, product: str) -
 
 
 OF_COSTS = [
-    cost("analyse_3_times", "analyse", "3 times the time", calls.slower(3), FIELDS),
+    cost("analyse_3_times", "analyse", "3 times the time", calls.slower(3), "analyse"),
     cost("certify_3_times", "certify", "3 times the time", calls.slower(3), CHOICES),
     cost("run_3_times", "run", "3 times the time", calls.slower(3), SENDS),
     cost("single_3_times", "single", "3 times the time", calls.slower(3), SENDS),

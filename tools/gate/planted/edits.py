@@ -20,8 +20,6 @@ EXACT = "tools/python/plextools/runs/exact.py"
 BOTH_ORDERS = "tools/python/plextools/runs/both_orders.py"
 PRECISION = "tools/python/plextools/runs/precision.py"
 COSTS = "tools/python/plextools/runs/machine_costs.py"
-COUNTERS = "tools/python/plextools/analysis/counters.py"
-ADDITIONS = "tools/python/plextools/text/additions.py"
 PAIR_CHANGES = "tools/python/plextools/analysis/pair_changes.py"
 LSP = "tools/python/plextools/lsp/"
 KEPT = "tools/python/plextools/runs/kept.py"
@@ -32,6 +30,9 @@ TRACE_JSON = "tools/python/plextools/show/trace_json.py"
 PAIR_GRAPH = "tools/python/plextools/show/pair_graph.py"
 PAIR_TABLE = "tools/python/plextools/show/pair_table.py"
 PAGE_HTML = "tools/python/plextools/show/page_html.py"
+PAGE_JS = "tools/python/plextools/show/page.js"
+STEP = "tools/python/plextools/commands/step.py"
+FLOWS = "tools/python/plextools/runs/flows.py"
 
 
 def check(name: str, told: str, file: str, old: str, new: str) -> Edit:
@@ -51,8 +52,13 @@ def bound(name: str, told: str, file: str, old: str, new: str) -> Edit:
     return Edit(name, "plex-load", told, "compare_bounds", file, old, new, ("--cases", "30"))
 
 
-def option(name: str, tool: str, told: str, file: str, old: str, new: str) -> Edit:
-    return Edit(name, tool, told, "load_options", file, old, new)
+def option(name: str, tool: str, told: str, only: str, file: str, old: str, new: str) -> Edit:
+    return Edit(name, tool, told, "load_options", file, old, new, ("-k", only))
+
+
+def added(name: str, tool: str, told: str, file: str, old: str, new: str) -> Edit:
+    path = f"tools/python/plextools/{file}"
+    return Edit(name, tool, told, "compare_additions", path, old, new)
 
 
 def page(name: str, told: str, file: str, old: str, new: str) -> Edit:
@@ -81,48 +87,67 @@ OF_BOUNDS = [
         "for level in LEVELS if level < job.level",
         "for level in LEVELS if level > job.level",
     ),
-    bound(
+    load(
         "faults_restart_nothing",
         "a first job that may fault in no forlopp is allowed",
         PLAY,
-        '"FORLOPP": lambda first, later: first.forlopp != 0,',
-        '"FORLOPP": lambda first, later: True,',
+        "return lambda first, later: first.forlopp != 0",
+        "return lambda first, later: True",
     ),
     bound(
         "values_differ_always",
         "two jobs that name one record are allowed",
         PLAY,
-        '"DIFFER": lambda first, later: first.values[a] != later.values[b],',
-        '"DIFFER": lambda first, later: True,',
+        "return lambda first, later: first.values[a] != later.values[b]",
+        "return lambda first, later: True",
     ),
     option(
         "other_order_is_the_first",
         "plex-load",
-        "a pair that does not commute is one that does",
+        "`--precision` tells a pair that does not commute as one that does",
+        "test_precision",
         BOTH_ORDERS,
         "commutes = orders == (first.left, later.left, wanted.cells)",
         "commutes = orders is not False",
     ),
-    option(
-        "narrow_counters",
+    added(
+        "one_side_counts",
         "plex-why",
-        "a variable of any WIDTH is a counter",
-        COUNTERS,
-        "if reason.kind not in KINDS or self.width(reason.name) != MOST_WIDTH:",
-        "if reason.kind not in KINDS:",
+        "a conflict is about a counter where one entry alone adds",
+        "analysis/additions.py",
+        "return all(told in self.adds.get(entry, ()) for entry in (i, j))",
+        "return any(told in self.adds.get(entry, ()) for entry in (i, j))",
+    ),
+    added(
+        "adding_not_heeded",
+        "plex-load",
+        "the verdicts with additions are those without them",
+        "analysis/additions.py",
+        "return (i, j) in self.adding",
+        "return False",
     ),
     option(
+        "sums_of_two_operations",
+        "plex-load",
+        "a number of a record with more than one operation is known",
+        "sums",
+        "tools/python/plextools/analysis/start_sums.py",
+        "other = parts[1].factor if len(parts) == 2 else None",
+        "other = parts[1].factor if len(parts) >= 2 else None",
+    ),
+    added(
         "taken_from_is_added",
-        "plex-why",
+        "plex-load",
         "V = T - V is an addition",
-        ADDITIONS,
+        "text/additions.py",
         'if len(term) > 1 or operator == "-" or not names(factor, node):',
         "if len(term) > 1 or not names(factor, node):",
     ),
     option(
         "accesses_cost_nothing",
         "plex-load",
-        "a synchronised access costs nothing",
+        "`--cost-sync` costs nothing",
+        "costs_of_a_machine",
         COSTS,
         "len(job.sent) * costs.send + sync)",
         "len(job.sent) * costs.send)",
@@ -130,7 +155,8 @@ OF_BOUNDS = [
     option(
         "freed_is_still",
         "plex-why",
-        "a pair that is free now is told as one that never runs together",
+        "`--diff` tells a pair that is free now as one that never runs together",
+        "changes_of_pairs",
         PAIR_CHANGES,
         "change = (STILL if is_never else FREE)",
         "change = (STILL if is_never else STILL)",
@@ -145,6 +171,10 @@ def lsp(name: str, told: str, file: str, old: str, new: str, test: str) -> Edit:
 
 def step(name: str, told: str, file: str, old: str, new: str) -> Edit:
     return Edit(name, "plex-step", told, "plex_step", file, old, new)
+
+
+def terminal(name: str, told: str, old: str, new: str) -> Edit:
+    return Edit(name, "plex-step", told, "step_terminal", STEP, old, new)
 
 
 def trace(name: str, told: str, old: str, new: str) -> Edit:
@@ -412,6 +442,41 @@ OF_PAGE += [
         "max(2.0, scale * (end - begin) - 2)",
     ),
     page(
+        "answers_untold",
+        "the data of a job has no answers",
+        FLOWS,
+        "isinstance(step, Message)]",
+        "isinstance(step, Message) and step.kind.value != 'answer']",
+    ),
+    page(
+        "page_other_receiver",
+        "a buffered signal is told to start the job before",
+        PAGE_DATA,
+        "[[place.get(number, 0) for number in job.sent] for job in jobs]",
+        "[[place.get(number - 1, 0) for number in job.sent] for job in jobs]",
+    ),
+    Edit(
+        "page_answers_as_calls",
+        "plex-page",
+        "the call flow draws answers as other signals inside a job",
+        "look_at_page",
+        PAGE_JS,
+        'told === "answer" ? "answer" : ',
+        "",
+        ("-k", "call_flow"),
+    ),
+    Edit(
+        "calls_undrawn",
+        "plex-page",
+        "the call flow draws no direct and no combined signal",
+        "look_at_page",
+        PAGE_JS,
+        "rows.push(signalRow(place, flows, number, receivers));",
+        'if (flows.words[flows.signals[number][0]] === "buffered") '
+        "rows.push(signalRow(place, flows, number, receivers));",
+        ("-k", "call_flow"),
+    ),
+    page(
         "reached_by_another",
         "lines are told to be reached by the next entry",
         PAGE_HTML,
@@ -472,6 +537,29 @@ OF_LSP = [
 ]
 
 OF_STEP = [
+    terminal("tab_stays_a_tab", "Tab completes nothing", '"tab: complete"', '"tab: tab-insert"'),
+    terminal(
+        "interrupt_at_the_prompt_ends",
+        "Ctrl-C at the prompt ends the session",
+        "            print()\n            continue",
+        "            return",
+    ),
+    terminal(
+        "interrupt_moves",
+        "a command that Ctrl-C stops leaves the run where it was stopped",
+        "            session.stepper.go(session.stepper.place)",
+        "            pass",
+    ),
+    Edit(
+        "goto_of_few_jobs",
+        "plex-step",
+        "goto takes no number above 10,000",
+        "plex_step",
+        "tools/python/plextools/commands/step_session.py",
+        "self.times(words, MOST_JOBS)",
+        "self.times(words)",
+        ("-k", "wrong_command"),
+    ),
     step(
         "back_past_the_last_place",
         "a search backward takes the place where it begins",
@@ -526,13 +614,13 @@ OF_STEP = [
 OF_TRACE = [
     trace(
         "flow_behind_its_job",
-        "the flow of a signal begins behind the job that sends it",
+        "`--trace-json` begins the flow of a signal behind the job that sends it",
         'begins = event("s", "sent", "sent", bar.end - 1, thread)',
         'begins = event("s", "sent", "sent", bar.end, thread)',
     ),
     trace(
         "job_of_another_worker",
-        "a job is that of the worker before",
+        "`--trace-json` gives a job to the worker before",
         "job, thread = bar.job, bar.row + 1",
         "job, thread = bar.job, bar.row",
     ),
@@ -565,6 +653,24 @@ OF_OTHERS = [
         PAIR_GRAPH,
         "if not both or first < later:",
         "if True:",
+    ),
+    Edit(
+        "bundles_one_way",
+        "pairs_dot",
+        "`--blocks` draws the same pairs of both orders as two arrows",
+        "pictures",
+        PAIR_GRAPH,
+        "both = first != later and found.get(bundle.turned) == told",
+        "both = False",
+    ),
+    Edit(
+        "reasons_counted_once",
+        "pairs_dot",
+        "`--blocks` tells of one test of each pair alone",
+        "pictures",
+        PAIR_GRAPH,
+        "for reason in verdict.reasons})",
+        "for reason in verdict.reasons[:1]})",
     ),
     Edit(
         "other_letter",

@@ -4,7 +4,12 @@ it.
 from gate.planted import calls
 from gate.planted.calls import Answer
 from gate.planted.rows import conflicts, merger
-from gate.planted.special import is_line, of_all_pairs
+from gate.planted.special import (
+    is_line,
+    of_all_pairs,
+    with_narrow_variables,
+    with_one_side,
+)
 
 OF_MERGER = [
     merger(
@@ -38,6 +43,14 @@ OF_MERGER = [
         calls.replaced(rb" BADLINE$", b" WRONGDATA"),
         "-k",
         "test_plex_merge",
+    ),
+    merger(
+        "merge_memory_as_refused",
+        "the status 8 becomes 2",
+        "hostile",
+        calls.status_becomes((8,), 2),
+        "-k",
+        "test_plex_merge and memory",
     ),
     merger(
         "merge_too_large",
@@ -101,6 +114,42 @@ OF_CONFLICTS = [
         "no conflict of a level",
         "compare_conflicts",
         calls.without(rb"^CLASH \d+ \d+ \d+$"),
+    ),
+    conflicts(
+        "adds_lost",
+        "the last line ADDS is missing",
+        "compare_additions",
+        calls.without(rb"^ADDS ", slice(-1, None)),
+    ),
+    conflicts(
+        "adds_swapped",
+        "two neighbouring lines ADDS of one entry change places",
+        "compare_additions",
+        calls.swapped(rb"^ADDS 0 "),
+    ),
+    conflicts(
+        "narrow_added",
+        "a variable of WIDTH 16 is among what is added to",
+        "compare_additions",
+        with_narrow_variables,
+    ),
+    conflicts(
+        "adding_lost",
+        "the last line ADDING is missing",
+        "compare_additions",
+        calls.without(rb"^PAIR \d+ \d+ ADDING ", slice(-1, None)),
+    ),
+    conflicts(
+        "one_side_spared",
+        "a pair passes with additions where one entry alone adds",
+        "compare_additions",
+        with_one_side,
+    ),
+    conflicts(
+        "far_adds_lost",
+        "no line ADDS of an entry from number 2 on",
+        "compare_conflicts",
+        calls.without(rb"^ADDS (?![01] )"),
     ),
     conflicts("pair_not_heeded", "the numbers of a pair are not heeded", "examples", of_all_pairs),
     conflicts(

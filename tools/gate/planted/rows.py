@@ -56,6 +56,6 @@ def conflicts(name: str, told: str, check: str, alter: calls.Alter, *words: str)
 ALL_RUNS = " ".join(RUNS)
 LISTED = "--cases", "20", "-k", "by_chance"
 TOO_EARLY = f"is told one line too early from line {FAR_LINE} on"
-OTHER_WORKERS = "two lines VAR change places with a number of workers that is none of " + ", ".join(
+OTHER_WORKERS = "two lines VAR change places with `--workers` that are none of " + ", ".join(
     USUAL_WORKERS
 )

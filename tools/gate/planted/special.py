@@ -1,4 +1,5 @@
 """Alterations of answers of one command alone, and when a call is altered."""
+import pathlib
 import re
 import tempfile
 from typing import Callable, List
@@ -55,7 +56,9 @@ def one_line_early(answer: Answer, _: Call) -> Answer:
 
 
 def always_refuses(_: Answer, call: Call) -> Answer:
-    told = b"%s:1: UNEXPECTED: a token that does not fit there\n" % call.words[1].encode()
+    name = call.words[1].encode()
+    told = b"%s:1: UNEXPECTED: a token that does not fit there\n" % name
+    told += b"plex-check %s tells all faults, with columns\n" % name
     return Answer(2, b"SOURCE line 1 UNEXPECTED\n", told)
 
 
@@ -98,6 +101,27 @@ def all_jobs_shown(answer: Answer, call: Call) -> Answer:
 def of_all_pairs(_: Answer, call: Call) -> Answer:
     """The numbers of a pair are not heeded."""
     return Call(call.program, call.words[:1]).answer()
+
+
+def with_narrow_variables(answer: Answer, call: Call) -> Answer:
+    """Entry 0 only adds to the first variable of 16 bits of its block, whatever it does."""
+    text = pathlib.Path(call.words[0]).read_bytes()
+    found = re.search(rb"BLOCK (\w+);\s+DECLARE;[^B]*?VARIABLE (\w+) WIDTH 16\b", text)
+    line = b"ADDS 0 VAR %s.%s\n" % found.groups() if found else b""
+    head = b"\nADDITIONS 1\n"
+    return answer._replace(wrote=answer.wrote.replace(head, head + line))
+
+
+def with_one_side(answer: Answer, _: Call) -> Answer:
+    """The first pair that is apart by a variable to which one entry alone adds always passes."""
+    adds = {*re.findall(rb"^ADDS (\d+) VAR (\S+)$", answer.wrote, re.M)}
+    for i, j, name in re.findall(rb"^PAIR (\d+) (\d+) NEVER VARIABLE (\S+)$", answer.wrote, re.M):
+        if ((i, name) in adds) != ((j, name) in adds):
+            line = b"PAIR %s %s ADDING ALWAYS\n" % (i, j)
+            return answer._replace(
+                wrote=re.sub(rb"^END ADDITIONS$", line + rb"\g<0>", answer.wrote, flags=re.M)
+            )
+    return answer
 
 
 def re_counted(answer: Answer, pattern: bytes, more: int) -> Answer:

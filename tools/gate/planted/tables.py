@@ -2,11 +2,17 @@
 import textwrap
 from typing import Dict, List
 
-from gate.planted import answers, edits, tool_edits
+from gate.planted import answers, edits, option_edits, tool_edits
 from gate.planted.checks import called
 from gate.planted.planted import Planted
 
-PLANTED: List[Planted] = [*answers.ALTERED, *edits.EDITS, *tool_edits.EDITS]
+PLANTED: List[Planted] = [
+    *answers.ALTERED,
+    *edits.EDITS,
+    *tool_edits.EDITS,
+    *option_edits.EDITS,
+]
+BY_NAME = {row.name: row for row in PLANTED}
 SHOWN, WIDTH = 70, 100  # letters of words, and of a line
 
 

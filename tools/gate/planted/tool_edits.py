@@ -9,7 +9,8 @@ SHOW = "tools/python/plextools/show"
 RUNS = "tools/python/plextools/runs"
 COMMANDS = "tools/python/plextools/commands"
 RECORDS, LONG_FORM = f"{SHOW}/records.py", f"{SHOW}/long_form.py"
-EXPLANATIONS = "tools/python/plextools/text/explanations.py"
+TEXT = "tools/python/plextools/text"
+EXPLANATIONS = f"{TEXT}/explanations.py"
 CHECK, WHY, TEST = (f"{COMMANDS}/{name}.py" for name in ("check", "why", "test"))
 CHART, CHART_SVG, CHART_WORDS = (
     f"{SHOW}/{name}.py" for name in ("chart", "chart_svg", "chart_words")
@@ -23,6 +24,10 @@ PAIR_JSON, OUTCOMES, DIFFERENCES = (
 def shown(name: str, told: str, file: str, old: str, new: str, only: str = "") -> Edit:
     words = ("-k", only) if only else ()
     return Edit(name, "plex-check", told, "diagnostics", file, old, new, words)
+
+
+def slipped(name: str, told: str, file: str, old: str, new: str) -> Edit:
+    return Edit(name, "plex-check", told, "slips", f"{TEXT}/{file}", old, new)
 
 
 def explained(name: str, told: str, old: str, new: str) -> Edit:
@@ -44,6 +49,27 @@ def tested(name: str, told: str, file: str, old: str, new: str, only: str) -> Ed
 
 
 OF_CHECK = [
+    slipped(
+        "ends_at_the_end",
+        "the end of a statement is put in where the fault is told",
+        "closers.py",
+        "    for number, frame in enumerate(frames, 1):\n",
+        "    for number, frame in enumerate(frames[:0], 1):\n",
+    ),
+    slipped(
+        "letters_apart",
+        "each word in small letters is told by itself",
+        "advice.py",
+        'f"write {meant}", edits, SMALL_LETTERS)',
+        'f"write {meant}", edits)',
+    ),
+    slipped(
+        "warnings_of_slips",
+        "warnings that come from a misspelled name are told",
+        "retelling.py",
+        "if one not in may_follow or key_of(one) in left]",
+        "if one not in may_follow or key_of(one)]",
+    ),
     shown(
         "json_column",
         "`--json` gives each column one too large",
@@ -340,4 +366,26 @@ OF_TEST = [
     ),
 ]
 
-EDITS: List[Edit] = [*OF_CHECK, *OF_WHY, *OF_CHART, *OF_TEST]
+OF_LSP = [
+    Edit(
+        "whole_text_at_once",
+        "plex-lsp",
+        "a long text is looked at as a whole behind each edit",
+        "lsp_speed",
+        "tools/python/plextools/lsp/quick.py",
+        "    if window is None:\n",
+        "    if window is None or window:\n",
+    ),
+]
+OF_VSIX = [
+    Edit(
+        "vsix_without_file",
+        "vsix",
+        "a file of the extension is not packed",
+        "vsix",
+        "tools/maintain/vsix",
+        '    "connection.js",\n',
+        "",
+    ),
+]
+EDITS: List[Edit] = [*OF_CHECK, *OF_WHY, *OF_CHART, *OF_TEST, *OF_LSP, *OF_VSIX]
