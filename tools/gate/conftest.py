@@ -3,7 +3,10 @@ from __future__ import annotations
 
 import os
 import pathlib
+import shutil
 import signal
+import subprocess
+import sys
 import tempfile
 from collections import Counter, defaultdict
 from typing import Any, Iterator
@@ -12,7 +15,7 @@ import pytest
 from _pytest.terminal import TerminalReporter
 
 from gate import harness
-from gate.checking import Share, Sums, Tally
+from gate.checking import TOOLS, Share, Sums, Tally
 from gate.lsp_client import Client
 from gate.lsp_example import need_module
 from plextools import programs
@@ -24,6 +27,14 @@ SKIPPED: list[str] = []
 UNPROVED: set[str] = set()  # the programs that were taken though they are not proved
 OUTCOMES = ("passed", "failed", "error", "skipped")
 LONGEST = 300.0  # seconds that the Python of one test may compute; what it calls has its own limits
+# Where the processes of pytest-xdist find compiled modules, which is told to them by this variable.
+COMPILED, PREFIX = "GATE_COMPILED", "PYTHONPYCACHEPREFIX"
+IMPORTS_ALL = """
+import contextlib, importlib, pkgutil, plextools
+for one in pkgutil.walk_packages(plextools.__path__, "plextools."):
+    with contextlib.suppress(ImportError):
+        importlib.import_module(one.name)
+"""
 
 
 def several(word: str) -> list[int]:
@@ -84,6 +95,24 @@ def pytest_configure(config: pytest.Config) -> None:
     config.addinivalue_line("markers", "long: takes long, so that it is started first")
     if config.option.seed is None:
         config.option.seed = harness.seed()
+    if is_worker(config):
+        os.environ[PREFIX] = os.environ[COMPILED]
+    elif getattr(config.option, "numprocesses", None):
+        os.environ[COMPILED] = compiled(config)
+
+
+def compiled(config: pytest.Config) -> str:
+    """A folder with the modules of the tools for users and those that they import, compiled, so
+    that not each of the many tools that the tests start compiles its own anew.
+    """
+    folder = tempfile.mkdtemp()
+    config.add_cleanup(lambda: shutil.rmtree(folder, ignore_errors=True))
+    os.chmod(folder, 0o755)  # another user may run a tool
+    around = {**os.environ, PREFIX: folder, "PYTHONPATH": str(TOOLS / "python")}
+    around.pop("PYTHONDONTWRITEBYTECODE", None)
+    for python in (sys.executable, "python3"):
+        subprocess.run([python, "-c", IMPORTS_ALL], env=around, timeout=LONGEST, check=False)
+    return folder
 
 
 def pytest_report_header(config: pytest.Config) -> str:
@@ -108,8 +137,10 @@ def pytest_generate_tests(metafunc: pytest.Metafunc) -> None:
 
 
 def pytest_collection_modifyitems(items: list[pytest.Item]) -> None:
-    """Puts what takes long first, so that no process works on alone at the end."""
-    items.sort(key=lambda item: item.get_closest_marker("long") is None)
+    """Puts what takes long first, and what one process has to run as a group, so that no process
+    works on alone at the end.
+    """
+    items.sort(key=lambda item: not any(map(item.get_closest_marker, ("long", "xdist_group"))))
 
 
 def found(program: programs.Program) -> pathlib.Path:

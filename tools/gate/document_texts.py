@@ -9,6 +9,7 @@ from gate import harness
 
 LANGUAGE = (harness.ROOT / "docs" / "LANGUAGE.md").read_text()
 FORMATS = (harness.ROOT / "docs" / "FORMATS.md").read_text()
+OUTPUTS = (harness.ROOT / "docs" / "OUTPUTS.md").read_text()
 BROKEN = re.compile(r"^```\n([^`]*)^```\n`(SOURCE line \d+ \w+)`$", re.M)
 TOLD = re.compile(r"^`SOURCE line \d+ \w+`$", re.M)
 FRAME = re.compile(r"^```\n([^`]*^! program\n[^`]*)^```$", re.M)

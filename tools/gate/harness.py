@@ -32,6 +32,7 @@ from plextools import programs
 
 ROOT = programs.ROOT
 CASES = ROOT / "tools" / "gate" / "cases"
+PYTHON = "/usr/bin/python3"  # of Debian, which its modules belong to
 GUIDE = [ROOT / "docs" / "GUIDE.md", *sorted((ROOT / "docs" / "guide").glob("*.md"))]
 PLEX, MERGER, CONFLICTS = (
     programs.BY_NAME[name] for name in ("plex", "plex-merge", "plex-conflicts")
@@ -302,6 +303,22 @@ def is_there(command: str, needed_for: str) -> bool:
     if shutil.which(command):
         return True
     left_out(f"{needed_for}, as there is no {command}")
+    return False
+
+
+def has_modules(modules: Sequence[str], needed_for: str) -> bool:
+    """The same for modules of Debian's Python."""
+    find = (
+        "import importlib.util, sys; sys.exit(not all(map(importlib.util.find_spec, sys.argv[1:])))"
+    )
+    words = [PYTHON, "-I", "-c", find, *modules]
+    try:
+        done = subprocess.run(words, stdin=subprocess.DEVNULL, timeout=60, check=False)
+    except (OSError, subprocess.TimeoutExpired):
+        done = None
+    if done is not None and done.returncode == 0:
+        return True
+    left_out(f"{needed_for}, as Debian's Python has not {' and '.join(modules)}")
     return False
 
 

@@ -11,6 +11,8 @@ from gate.hostile_words import UNREAD
 from plextools.limits import MOST_BYTES
 
 NAME, WORDS = "plex-merge", ("E", "S", "T")
+MANY = 300_000  # lines, which take more than 30 MB
+NO_MEMORY = f"{NAME}: out of memory: give it more, or merge smaller files\n"
 PERIOD = "EVERY 1 FROM 0 TIMES 3 TICK COUNTER NONE\n"
 
 
@@ -41,7 +43,7 @@ def placed(name: str) -> Iterator[tuple[str, ...]]:
 
 
 def devices() -> Iterator[Case]:
-    """Files that cannot be read, and outputs that take no more."""
+    """Files that cannot be read, outputs that take no more, and memory that is short."""
     files = {"E": TICKS, "S": THREE, "T": PERIOD}
     for name, told in UNREAD.items():
         for words in placed(name):
@@ -55,6 +57,9 @@ def devices() -> Iterator[Case]:
     error = LONG.replace("plex:", f"{NAME}:", 1)
     some = {**files, "long": "x" * 4096}
     yield Case("merge to an output of a limit", 7, "", WORDS, some, error=error, **small)
+    many: dict[str, Content] = {**files, "S": lambda: b"AFTER 0 TICK COUNTER NONE\n" * MANY}
+    limit, error = "ulimit -v 30000;", NO_MEMORY
+    yield Case("merge, for which memory is short", 8, "", WORDS, many, error=error, limit=limit)
     for output in ("2>/dev/full", "2>&-"):
         words = ("E", "missing", "T")
         yield Case(f"merge, a complaint with {output}", 6, "", words, files, output=output)

@@ -379,7 +379,8 @@ def devices() -> Iterator[Case]:
     named: dict[str, Any] = {"files": {"a file: 7.plex": "B\n", "a\nb": "B\n"}}
     told, broken = (
         "SOURCE line 1 UNEXPECTED\n",
-        '"a\\nb":1: UNEXPECTED: a token that does not fit there\n',
+        '"a\\nb":1: UNEXPECTED: a token that does not fit there\n'
+        'plex-check "a\\nb" tells all faults, with columns\n',
     )
     yield Case("a name with blanks and a colon", 2, told, ["run", "a file: 7.plex", "S"], **named)
     yield Case("a name of two lines", 2, told, ["run", "a\nb", "S"], error=broken, **named)

@@ -1,5 +1,5 @@
 """What plex says of faults on the standard error: the sentences that the program has, those of the
-tables in docs/FORMATS.md, and the line that belongs to a line of the output."""
+tables in docs/FORMATS.md, and the lines that belong to a line of the output."""
 from __future__ import annotations
 
 import functools
@@ -23,15 +23,25 @@ TABLES = {
     "read_reason": ("On the standard error", 1),
     "write_reason": ("On the standard error", 2),
 }
-TABLE = re.compile(r"^pub static (\w+): \[Row; \d+\] = \[(.*?)\];$", re.M | re.S)
+# The functions of the program that have the rows of each table of faults, in its order.
+ROWS = {
+    "SOURCE": ("source_row", "numbered_row", "link_row"),
+    "SIGNALS": ("signals_row",),
+    "TABLE": ("table_row",),
+    "FILTER": ("filter_row",),
+    "CERTIFICATE": ("certificate_row",),
+    "CHANGE": ("change_row",),
+}
+FUNCTION = re.compile(r"^(?:pub )?fn (\w+)\(.*?^}$", re.M | re.S)
 ROW = re.compile(r'\(\s*"(\w+)",\s*"([^"]*)",?\s*\)')
-REASONS = re.compile(r"^pub fn (\w+_reason)\(.*?^}$", re.M | re.S)
 REASON = re.compile(r'=> "([^"]*)"')
 
 # The place among the words of a command of the file in which the fault is, by the first word of the
 # line that tells it.
 PLACES = {"SOURCE": 1, "SIGNALS": 2, "TABLE": 3, "FILTER": 3, "NEWSOURCE": 3, "CHANGE": 3}
 FAULT = re.compile(r"([A-Z]+) (?:line (\d+) )?(\w+)")
+# The words of a command that plex-check takes to tell all faults of such a file.
+READ = {"SOURCE": (1, 2), "SIGNALS": (1, 3), "TABLE": (1, 4), "FILTER": (1, 4), "NEWSOURCE": (3, 4)}
 
 
 # A row of a table: a word and its sentence, or a reason alone.
@@ -41,11 +51,14 @@ Row = Union[tuple[str, str], str]
 @functools.lru_cache(maxsize=None)
 def compiled() -> dict[str, list[Row]]:
     """The tables of the program, each with its rows: a word and a sentence, or a reason alone."""
-    text = PROGRAM.read_text()
+    bodies = {found[1]: found[0] for found in FUNCTION.finditer(PROGRAM.read_text())}
     tables: dict[str, list[Row]] = {
-        found[1]: ROW.findall(found[2]) for found in TABLE.finditer(text)
+        table: [row for name in names for row in ROW.findall(bodies.get(name, ""))]
+        for table, names in ROWS.items()
     }
-    tables.update((found[1], REASON.findall(found[0])) for found in REASONS.finditer(text))
+    tables.update(
+        (name, REASON.findall(body)) for name, body in bodies.items() if name.endswith("_reason")
+    )
     return tables
 
 
@@ -97,12 +110,22 @@ def certificate_among(words: Sequence[str]) -> str:
 
 
 def complaint(words: Sequence[str], line: str) -> str:
-    """The line that must stand on the standard error, where a command of these words writes this
-    line.
+    """What must stand on the standard error, where a command of these words writes this line: the
+    fault, and what tells all faults of its file.
     """
     found = FAULT.match(line)
     assert found, line
     first, number, word = found.groups()
     name = certificate_among(words) if first == "CERTIFICATE" else words[PLACES[first]]
-    place = f"{name}:{number}" if number not in (None, "0") else name
-    return f"{place}: {word}: {sentence(first, word)}\n"
+    told = f"{word}: {sentence(first, word)}\n"
+    if number in (None, "0"):
+        return f"{name}: {told}"
+    return f"{name}:{number}: {told}{checker(words, first)}"
+
+
+def checker(words: Sequence[str], first: str) -> str:
+    """The line that names what tells all faults of a file, where plex-check reads it."""
+    if first not in READ:
+        return ""
+    names = " ".join(words[slice(*READ[first])])
+    return f"plex-check {names} tells all faults, with columns\n"

@@ -27,7 +27,7 @@ from plextools import programs
 
 FOLDERS = {path.parent for item in programs.PROGRAMS for path in EXAMPLES.rglob(item.words)}
 NAMES = sorted(str(folder.relative_to(EXAMPLES)) for folder in FOLDERS)
-DONE, USAGE, LEAST, LONGEST = 0, 1, 89, harness.WHILE
+DONE, USAGE, LEAST, LONGEST = 0, 1, 90, harness.WHILE
 ANSWERED = "--help", "-h", "--version"
 ENVIRONMENT = {name: value for name, value in os.environ.items() if name != "PLEX_PROGRESS"}
 

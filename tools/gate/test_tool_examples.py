@@ -160,9 +160,11 @@ def placed(words: Sequence[Any], folder: pathlib.Path) -> list[Any]:
 
 
 def is_complaint(message: str, told: str) -> bool:
-    """Whether a message is the one line in which plex itself complains of what it has refused."""
+    """Whether a message is what plex itself says of what it has refused: its line, and what tells
+    all faults."""
     _, _, line, rule = told.split()
-    return message.count("\n") == 1 and f":{line}: {rule}: " in message
+    first, *more = message.splitlines()
+    return f":{line}: {rule}: " in first and [text.split()[0] for text in more] == ["plex-check"]
 
 
 @pytest.mark.parametrize("wrong", ALL_WRONG, ids=[named(wrong.words) for wrong in ALL_WRONG])
