@@ -21,6 +21,7 @@ TOOL = harness.ROOT / "tools" / "bin" / "plex-step"
 ASK = harness.ROOT / "examples" / "guide" / "ask"
 PROMPT, INTERRUPT, END_OF_FILE, TAB, UP = b"(plex) ", b"\x03", b"\x04", b"\t", b"\x1b[A"
 SOON = 300  # seconds in which an answer must come
+WHILE = 0.3  # seconds of the processor in which a command that was typed is surely begun
 STEERING = re.compile(rb"\x1b\[\??[\d;]*[A-Za-z]|\r|\x07")
 # A job that sends itself, so that a run ends at its limit alone.
 ENDLESS = """SIGNAL TICK SINGLE BUFFERED B DATA 0;
@@ -34,7 +35,7 @@ SEND TICK;
 EXIT;
 END BLOCK;
 """
-LONG = 5_000_000  # jobs, through which no machine goes in the second before Ctrl-C
+LONG = 5_000_000  # jobs, through which no machine goes before Ctrl-C
 
 Word = Union[str, pathlib.Path]
 
@@ -84,6 +85,18 @@ class Terminal:
     def type(self, keys: bytes) -> None:
         os.write(self.end, keys)
 
+    def seconds(self) -> float:
+        """The seconds of the processor that the session has used."""
+        of_process = pathlib.Path(f"/proc/{self.process}/stat").read_text().rpartition(")")[2]
+        return sum(map(int, of_process.split()[11:13])) / os.sysconf("SC_CLK_TCK")
+
+    def work(self) -> None:
+        """Waits until the session has worked a while."""
+        begun, until = self.seconds(), time.monotonic() + SOON
+        while self.seconds() < begun + WHILE:
+            assert time.monotonic() < until, "the session does not work"
+            time.sleep(0.01)
+
     def ended(self) -> int:
         """The status with which the session ends."""
         while self.read():
@@ -125,11 +138,12 @@ def test_lines_come_back(asking: Terminal) -> None:
 
 
 def test_interrupt_at_the_prompt(asking: Terminal) -> None:
-    """Ctrl-C forgets the line that is typed, and the session goes on."""
-    asking.type(b"quit")
-    asking.until(b"quit")
-    asking.type(INTERRUPT)
-    asking.until(PROMPT)
+    """Ctrl-C forgets the line that is typed, and the session goes on, whenever the key comes."""
+    for _ in range(10):
+        asking.type(b"quit")
+        asking.until(b"quit")
+        asking.type(INTERRUPT)
+        asking.until(PROMPT)
     asking.type(b"where\n")
     assert b"DESK:" in asking.until(PROMPT)
     asking.type(END_OF_FILE)
@@ -148,7 +162,7 @@ def test_interrupt_of_a_command(plex: pathlib.Path, folder: pathlib.Path) -> Non
         terminal.type(b"where\n")
         place = terminal.until(PROMPT).strip()
         terminal.type(b"goto %d\n" % (LONG - 1))
-        time.sleep(1)
+        terminal.work()
         terminal.type(INTERRUPT)
         assert b"stopped" in terminal.until(PROMPT)
         terminal.type(b"where\n")

@@ -11,6 +11,7 @@ files alone. A wrong command ends it there, with the status 1.
 import argparse
 import contextlib
 import os
+import signal
 import sys
 import tempfile
 from typing import Iterable, Iterator, List, NamedTuple, Optional
@@ -26,6 +27,7 @@ from plextools.text.statements import Text
 
 PROMPT = "(plex) "
 WRONG_COMMAND = 1
+WAKE = 0.2  # seconds after which an interrupt is heeded at the latest while a line is edited
 
 
 class Given(argparse.Namespace):
@@ -103,6 +105,21 @@ def complete(session: Session, word: str, place: int) -> Optional[str]:
     return found[place] if place < len(found) else None
 
 
+@contextlib.contextmanager
+def waking() -> Iterator[None]:
+    """Ends each wait for a key after a moment, by an alarm that does nothing else.
+
+    An interrupt that comes just before readline begins to wait would be heeded with the next key.
+    """
+    before = signal.signal(signal.SIGALRM, lambda *_: None)
+    signal.setitimer(signal.ITIMER_REAL, WAKE, WAKE)
+    try:
+        yield
+    finally:
+        signal.setitimer(signal.ITIMER_REAL, 0)
+        signal.signal(signal.SIGALRM, before)
+
+
 def typed(session: Session) -> Iterator[str]:
     """The lines of the standard input; on a terminal they can be edited, where that is built in."""
     is_terminal = sys.stdin.isatty()
@@ -115,7 +132,8 @@ def typed(session: Session) -> Iterator[str]:
             readline.parse_and_bind("tab: complete")
     while True:
         try:
-            line = input(PROMPT if is_terminal else "")
+            with waking() if is_terminal else contextlib.nullcontext():
+                line = input(PROMPT if is_terminal else "")
         except KeyboardInterrupt:
             print()
             continue
