@@ -1,9 +1,9 @@
-// The program as one call.
+// The whole program as one call.
 //
-// What goes in: the words of the command, a shelf of files and a sink. What comes out: a status,
-// and the text in the sink. The contract of `plex` says which: the answer is a function of the
-// words and the files, the report of the single run among it. It knows no process: main gives it
-// the real devices.
+// In: the command's arguments, a shelf (a device that reads files) and a sink (a device that takes
+// output). Out: an exit status, and the text in the sink. The contract of `plex` states that both
+// are a function of the arguments and the files; the report of a run is that of the single run. The
+// crate does not touch the process: main passes in the real devices.
 #![tactic(auto)]
 
 mod perform;

@@ -1,4 +1,4 @@
-// The work of each command, up to its answer.
+// Performs each command, up to its answer.
 ghost use Rattle.std.specs.Prelude.{IfOk};
 ghost use Rattle.answer_meaning.specs.Answer.{performed};
 ghost use Rattle.answer_meaning.specs.Program.{IsEnding};
@@ -17,8 +17,8 @@ use worker_answers::{
     Way, perform_certified, perform_change, perform_load, perform_run, perform_timed,
 };
 
-/// What a command comes to. Jobs may run at once on the threads of the host, and the thread of each
-/// calls the gate.
+/// Performs a command and returns its answer. Jobs may run in parallel on the threads of the host;
+/// each such thread calls the gate.
 #[tactic(auto, using(answer_meaning::proofs::Stages::performs_told))]
 pub fn perform<R: Threads + Wait + Sync, S: Shelf, G: Gate + Sync>(
     host: &Host<'_, R, G>,

@@ -1,4 +1,4 @@
-// The program as one call.
+// The whole program as one call.
 ghost use Rattle.std.specs.Prelude.{◌≡◌, IfSome, None, Ok};
 ghost use Rattle.answer_meaning.specs.Answer.{IsAnswer, usage_answer};
 ghost use Rattle.answer_meaning.specs.Program.{Answers, ProcessEnds, ProcessEndsAs, IsComplete};
@@ -19,15 +19,17 @@ use std::sync::Wait;
 use std::thread::Threads;
 use text_parts::Text;
 
-/// The program: reads the files that the words name, and writes the answer.
+/// Runs the program: reads the files that the arguments name, and writes the answer to the sink.
 ///
-/// `words` are the command's words without the program's name. Where the shelf tells its files, the
-/// status and the text are those of the answer (`IsAnswer`), but for `Read` where a read failed,
-/// `Write` where the sink failed or is full, and then a proper front of the text was written, and
-/// `Memory`. With the status of a refusal, and no other, comes the fault whose line was written.
-/// Where the words allow more than one worker, jobs may run at once on threads of `rt`,
-/// each of which calls `gate` before and after its job; the answer is that of the single run all
-/// the same.
+/// `words` are the command's arguments without the program's name. Where the shelf's contents are
+/// known (`held`), status and text are those of the answer (`IsAnswer`). The only other outcomes
+/// are `Read` where a file is missing or a read failed, `Write` where the sink failed or is full (a
+/// proper prefix of the text has then been written), and `Memory` (out of memory). After `Read` and
+/// `Memory` nothing was written. `fault` is the reported fault exactly where the status is that of
+/// a refusal.
+///
+/// With more than one worker, jobs may run in parallel on threads of `rt`, each of which calls
+/// `gate` before and after its job. The answer equals that of the single run.
 #[tactic(auto, using(answer_meaning::proofs::Endings::ending))]
 pub fn plex<R: Threads + Wait + Sync, S: Shelf, K: Sink, G: Gate + Sync>(
     rt: &R,
@@ -73,7 +75,7 @@ pub fn plex<R: Threads + Wait + Sync, S: Shelf, K: Sink, G: Gate + Sync>(
     }
 }
 
-/// The answer to the words.
+/// The answer to the arguments.
 #[tactic(auto, using(answer_meaning::proofs::Endings::answering))]
 fn answered<R: Threads + Wait + Sync, S: Shelf, G: Gate + Sync>(
     host: &Host<'_, R, G>,

@@ -1,4 +1,4 @@
-// The program over devices in memory that never fail of themselves.
+// The program over in-memory devices that never fail.
 ghost use Rattle.std.specs.Prelude.{◌≡◌, ◌⊎◌};
 ghost use Rattle.plex_io.specs.Steady.{always_held};
 ghost use Rattle.answer_meaning.specs.Answer.{IsAnswer};
@@ -11,10 +11,11 @@ use std::alloc::Global;
 use std::sync::Wait;
 use std::thread::Threads;
 
-/// `plex` over a steady shelf and a steady sink. No read fails and no file is missing. Where the
-/// sink has room for the answer's text, no write fails either: the whole text is written and the
-/// status is the answer's, or memory was refused. After `Memory` nothing was written. This follows
-/// from the contract of `plex` alone, and so holds for each call of it with two such devices.
+/// `plex` over a steady shelf and a steady sink. No read fails and no file is missing. If the sink
+/// has room for the answer's text, no write fails either: the whole text is written and the status
+/// is the answer's, or the program is out of memory (`Memory`), and nothing was written. This
+/// follows from the contract of `plex` alone, so it holds for each call of it with two such
+/// devices.
 #[tactic(auto, using(answer_meaning::proofs::Endings::whole_end, answer_meaning::proofs::Endings::silent_end))]
 pub fn plex_steady<R: Threads + Wait + Sync, G: Gate + Sync>(
     rt: &R,
