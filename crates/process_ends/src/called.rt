@@ -1,4 +1,4 @@
-// A program over real files and the standard output.
+// Runs a program with real files and the standard output.
 use crate::complaint::{Known, Program, complain, no_memory};
 use crate::noting_shelf::NotingShelf;
 use crate::words::words_of;
@@ -11,12 +11,12 @@ use std::io;
 use std::process::ExitCode;
 use std::rt::{Env, Files};
 
-/// A program that is called by the names of files, and does its work in one call.
+/// A program whose arguments are names of files, and which does its work in one call.
 pub trait Called {
-    /// What the program says of itself.
+    /// The program's name and its message for out of memory.
     fn program(&self) -> Program;
 
-    /// The call that does the work.
+    /// Does the work.
     fn call<S: Shelf, K: Sink>(
         &self,
         alloc: Global,
@@ -25,13 +25,13 @@ pub trait Called {
         sink: &mut K,
     ) -> ProgramEnd;
 
-    /// Says on the standard error what is wrong with words that ask for nothing; `are_text` tells
-    /// whether all words were text. There is an error where a line cannot be written.
+    /// Reports wrong arguments on the standard error. `are_text` is false where an argument is not
+    /// UTF-8. Fails where the line cannot be written.
     fn say_wrong<R: Eprint>(&self, rt: &R, words: &[Word], are_text: bool) -> io::Result<()>;
 }
 
-/// Calls the program with the words of the command, real files and the standard output, and says
-/// what is to be said of its end.
+/// Calls the program with the process's arguments, real files and the standard output, and reports
+/// its end on the standard error.
 pub fn run_called<R: Env + AllocGlobal + Files + Print + Eprint, C: Called>(
     rt: &R,
     called: &C,
@@ -44,7 +44,7 @@ pub fn run_called<R: Env + AllocGlobal + Files + Print + Eprint, C: Called>(
     ExitCode::from(status.number())
 }
 
-/// The same with these words. Words that are no text are none here.
+/// The same with these arguments. They are empty where an argument is not UTF-8 (`are_text` false).
 fn run_words<R: AllocGlobal + Files + Print + Eprint, C: Called>(
     rt: &R,
     called: &C,

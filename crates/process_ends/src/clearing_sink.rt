@@ -1,4 +1,4 @@
-// A sink that clears the line of the progress before it writes.
+// A sink that clears the progress line before it writes.
 ghost use Rattle.std.specs.Prelude.{◌≡◌, ◌≤◌, length, take, IfOk, OnErr};
 ghost use Rattle.plex_io.specs.Causes.{Rose};
 ghost use Rattle.plex_io.specs.Written.{appended, IsFull, TakesSome};
@@ -6,7 +6,7 @@ ghost use Rattle.plex_io.specs.Written.{appended, IsFull, TakesSome};
 use crate::progress::Progress;
 use plex_io::{Sink, SinkFailed};
 
-/// A sink over another one, which clears the line of the progress before it writes.
+/// A sink that wraps another one and clears the progress line before each write.
 #[derive(Drop)]
 pub struct ClearingSink<'a, K, R> {
     sink: K,
@@ -14,14 +14,14 @@ pub struct ClearingSink<'a, K, R> {
 }
 
 impl<'a, K: Sink, R: Eprint> ClearingSink<'a, K, R> {
-    /// A sink over the given one.
+    /// Wraps the given sink.
     pub fn new(sink: K, progress: Option<&'a Progress<'a, R>>) -> ClearingSink<'a, K, R>
         ensures { result.sink ≡ sink }
     {
         ClearingSink { sink, progress }
     }
 
-    /// The sink to which it writes.
+    /// The wrapped sink.
     pub fn inner(&self) -> &K
         ensures { result.now ≡ self.now.sink }
     {

@@ -1,4 +1,4 @@
-// What is said on the standard error of each status. A line that cannot be written changes nothing.
+// The messages on the standard error for each status. A message that cannot be written is dropped.
 ghost use Rattle.std.specs.Prelude.{◌≡◌, ◌↔◌, ◌⊎◌};
 ghost use Rattle.command_words.specs.Status.{exit_number};
 
@@ -10,52 +10,52 @@ use plex_io::Word;
 use std::io;
 use std::io::ErrorKind;
 
-/// The version of the programs. The documents and the manual pages name it too.
+/// The version of the programs. The documents and the manual pages state it too.
 const VERSION: &str = "1.0.0";
 
-/// What a program says of itself.
+/// A program's name and its message for out of memory.
 #[derive(Clone, Copy)]
 pub struct Program {
-    /// Its name, with which its lines begin.
+    /// Its name, the prefix of its messages.
     pub name: &'static str,
-    /// Status 8: what memory that was refused means.
+    /// The message for status 8: what out of memory means for this program.
     pub no_memory: &'static str,
 }
 
-/// What main knows of a run beside its end.
+/// What main knows about a run besides its end.
 #[derive(Drop)]
 pub struct Known<'a> {
     /// The program.
     pub program: Program,
-    /// The words of the command from the first file on: the exchange text, the signal file, the
-    /// other files and what stands behind them.
+    /// The arguments from the first file on: the exchange text, the signal file, the other files
+    /// and the options after them.
     pub files: &'a [Word],
-    /// The name of the file of which a read failed.
+    /// The name of the file that could not be read.
     pub unread: Option<&'a Word>,
-    /// Of what kind that failure was.
+    /// The cause of that read failure.
     pub read_failure: Option<ErrorKind>,
-    /// Of what kind the failure of a write was.
+    /// The cause of the write failure.
     pub write_failure: Option<ErrorKind>,
 }
 
-/// What there is to say.
+/// What to report.
 #[derive(Clone, Copy, PartialEq, Eq)]
 enum Matter {
-    /// Nothing: the output tells all.
+    /// Nothing: the output is complete.
     Nothing,
-    /// What is wrong with the words of the command, which the program says itself.
+    /// Wrong arguments, which the program reports itself.
     Words,
-    /// What is wrong with a file, of which the line of the output tells.
+    /// A fault of a file, which the output's line names.
     Fault,
     /// Which file could not be read, and why.
     Read,
-    /// Why the output could not be written whole.
+    /// Why the output could not be written in full.
     Write,
-    /// That memory was refused.
+    /// Out of memory.
     Memory,
 }
 
-/// What there is to say of a status.
+/// What to report for a status.
 fn matter_of(status: Status) -> Matter
     ensures { (result ≡ Matter.Nothing)
         ↔ ((exit_number status ≡ 0) ⊎ (exit_number status ≡ 4) ⊎ (exit_number status ≡ 5)) }
@@ -75,9 +75,8 @@ fn matter_of(status: Status) -> Matter
     }
 }
 
-/// Says on the standard error what an end means where the standard output does not tell it all, and
-/// gives its status back. Of `Usage` it says nothing, since the program alone knows what its words
-/// may be.
+/// Reports an end on the standard error where the standard output does not say it all, and returns
+/// its status. `Usage` is left to the program, which alone knows its arguments.
 pub fn complain<R: Eprint>(rt: &R, end: ProgramEnd, known: &Known<'_>) -> Status
     ensures { result ≡ end.status }
 {
@@ -101,13 +100,13 @@ pub fn complain<R: Eprint>(rt: &R, end: ProgramEnd, known: &Known<'_>) -> Status
     end.status
 }
 
-/// Says on the standard error the name and the version of a program.
+/// Prints a program's name and version on the standard error.
 pub fn say_version<R: Eprint>(rt: &R, program: Program) -> io::Result<()> {
     let name = program.name;
     eprintln!(rt; "{name} {VERSION}")
 }
 
-/// The end where memory was refused for the words of the command.
+/// The end of a program that was out of memory when it took its arguments.
 pub fn no_memory<R: Eprint>(rt: &R, program: Program) -> Status
     ensures { result ≡ Status.Memory }
 {
@@ -125,7 +124,7 @@ pub fn no_memory<R: Eprint>(rt: &R, program: Program) -> Status
     complain(rt, end, &known)
 }
 
-/// Which file could not be read, and why.
+/// Reports which file could not be read, and why.
 fn say_unread<R: Eprint>(rt: &R, known: &Known<'_>) -> io::Result<()> {
     let program = known.program.name;
     let reason = read_reason(known.read_failure);
@@ -138,8 +137,8 @@ fn say_unread<R: Eprint>(rt: &R, known: &Known<'_>) -> io::Result<()> {
     }
 }
 
-/// A fault, in the form that compilers use, and what tells all faults of its file where the fault
-/// has a line.
+/// Reports a fault in the form that compilers use. Where the fault has a line, a second message
+/// names the command that lists all faults of the file.
 fn say_fault<R: Eprint>(rt: &R, fault: FileFault, files: &[Word]) -> io::Result<()> {
     let Some(file) = file_of(fault, files) else {
         return Ok(());
@@ -167,7 +166,7 @@ fn line_of(fault: FileFault) -> u32 {
     }
 }
 
-/// The command that tells all faults of a file, where plex-check reads such files.
+/// Names the command that lists all faults of the file, where plex-check reads such files.
 fn say_checker<R: Eprint>(rt: &R, fault: FileFault, files: &[Word]) -> io::Result<()> {
     match read_together(fault, files) {
         Some(files) => {
@@ -178,8 +177,8 @@ fn say_checker<R: Eprint>(rt: &R, fault: FileFault, files: &[Word]) -> io::Resul
     }
 }
 
-/// The names of the files that plex-check reads to tell all faults of the file of this one; `None`
-/// where it reads no such file.
+/// The files that plex-check reads to list all faults of this fault's file; `None` where it does
+/// not read such a file.
 fn read_together(fault: FileFault, files: &[Word]) -> Option<&[Word]> {
     match fault {
         FileFault::Source {
@@ -199,7 +198,7 @@ fn read_together(fault: FileFault, files: &[Word]) -> Option<&[Word]> {
     }
 }
 
-/// The first words, so many.
+/// The first `many` words; `None` where there are fewer.
 fn first_of(words: &[Word], many: usize) -> Option<&[Word]> {
     let (first, _) = words.split_at_checked(many)?;
     Some(first)
@@ -224,8 +223,7 @@ fn file_of(fault: FileFault, files: &[Word]) -> Option<&Word> {
     }
 }
 
-/// The name of the certificate of a run: it stands behind `--cert`, and options stand in pairs
-/// behind two files.
+/// The name of a run's certificate: the word after `--cert`. Options follow the two files in pairs.
 fn certificate_in(files: &[Word]) -> Option<&Word> {
     let (_, options) = files.split_at_checked(2)?;
     let pair = options.chunks(2).find(

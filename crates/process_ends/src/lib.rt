@@ -1,10 +1,10 @@
-// What a program has around its one call: the words of its command, a shelf that notes what went
-// wrong, how far a run has come, and what is said on the standard error of how it ended.
+// What a program needs around its one call: the command's arguments, a shelf that remembers failed
+// reads, a progress line, and the messages on the standard error for each end.
 //
-// What goes in: a runtime, the devices of `plex_io`, and how a program ended: its status, and the
-// fault of which it wrote the line. What comes out: lines on the standard error; the standard
-// output and the status are those of the call, and no line changes them. It does not know which
-// commands there are, or how many files they have.
+// In: a runtime, the devices of `plex_io`, and how a program ended (its status, and the fault that
+// it reported). Out: lines on the standard error. Standard output and status are those of the call;
+// nothing here changes them. The crate does not know which commands there are, or how many files
+// each takes.
 #![tactic(auto)]
 
 mod called;

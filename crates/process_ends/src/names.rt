@@ -1,9 +1,9 @@
-// Names and words of the command as they are printed.
+// Names and arguments as they are printed.
 use plex_io::Word;
 use std::fmt;
 
-/// A name as it stands on the command line, where nothing in it steers a terminal; else, and where
-/// it is empty, in quotation marks, with escapes as in `\n`.
+/// A file name as printed: unchanged where it is not empty and has no control character, so that it
+/// cannot steer a terminal; else in double quotes, with escapes such as `\n`.
 #[derive(Clone, Copy)]
 pub struct Named<'a>(pub &'a str);
 
@@ -18,7 +18,7 @@ impl fmt::Display for Named<'_> {
     }
 }
 
-/// Several names, each behind a space.
+/// Several names, each after a space.
 #[derive(Clone, Copy)]
 pub struct Names<'a>(pub &'a [Word]);
 
@@ -32,7 +32,8 @@ impl fmt::Display for Names<'_> {
     }
 }
 
-/// A word in quotation marks: in single ones, where nothing in it steers a terminal.
+/// An argument in quotes: single ones where it has no control character; else double ones, with
+/// escapes.
 #[derive(Clone, Copy)]
 pub struct Quoted<'a>(pub &'a str);
 
@@ -51,7 +52,7 @@ fn is_plain(text: &str) -> bool {
     !text.is_empty() && !text.chars().any(|character| character.is_control())
 }
 
-/// The text of a word.
+/// The text of an argument; empty where it is not UTF-8.
 pub fn text_of(word: &Word) -> &str {
     match str::from_utf8(word.as_slice()) {
         Ok(text) => text,

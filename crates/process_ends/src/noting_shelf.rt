@@ -1,4 +1,4 @@
-// A shelf that tells which file could not be read.
+// A shelf that remembers which file could not be read.
 ghost use Rattle.std.specs.Prelude.{◌≡◌, ◌≤◌, ◌<◌, length, position, slice_get, None, Some, Err};
 ghost use Rattle.std.specs.Prelude.{IfOk, IfSome, MatchOption};
 ghost use Rattle.std.specs.Str.{bytes_eq};
@@ -9,8 +9,8 @@ use plex_io::{Shelf, ShelfFault, Word};
 use plex_num::Seq;
 use std::alloc::Global;
 
-/// A shelf that keeps the place among the words of a command at which the last file stands of which
-/// a read failed. So it takes no memory.
+/// A shelf that wraps another one and remembers the last file whose read failed, as an index into
+/// the command's arguments, so that it needs no memory.
 #[derive(Drop)]
 pub struct NotingShelf<'a, S> {
     shelf: S,
@@ -19,7 +19,7 @@ pub struct NotingShelf<'a, S> {
 }
 
 impl<'a, S: Shelf> NotingShelf<'a, S> {
-    /// A shelf that holds what the given one holds, of which no read has failed so far.
+    /// Wraps the given shelf; no read has failed so far.
     pub fn new(shelf: S, words: &'a [Word]) -> NotingShelf<'a, S>
         ensures shelf { result.shelf ≡ shelf }
         ensures words { result.words.now ≡ words.now }
@@ -32,8 +32,8 @@ impl<'a, S: Shelf> NotingShelf<'a, S> {
         }
     }
 
-    /// The name of the last file of which a read failed; none, too, where no word of the command is
-    /// that name.
+    /// The name of the last file whose read failed; `None` where no read failed, or where no
+    /// argument equals that name.
     pub fn unread(&self) -> Option<&Word>
         ensures { MatchOption self.now.unread
             (result ≡ None)
@@ -47,7 +47,7 @@ impl<'a, S: Shelf> NotingShelf<'a, S> {
         }
     }
 
-    /// The shelf that it reads.
+    /// The wrapped shelf.
     pub fn inner(&self) -> &S
         ensures { result.now ≡ self.now.shelf }
     {
@@ -81,7 +81,7 @@ impl<'a, S: Shelf> Shelf for NotingShelf<'a, S> {
     }
 }
 
-/// The place of the first word that is this name.
+/// The index of the first word that equals this name.
 fn place_of(words: &[Word], name: &[u8]) -> Option<usize>
     ensures { result ≡ position (λ word. bytes_eq word name.now) words.now }
 {

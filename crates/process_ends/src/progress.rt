@@ -1,4 +1,4 @@
-// How far a run has come, told on the standard error while it runs.
+// The progress of a run, shown on the standard error.
 use plex_io::{Gate, Moment};
 use plex_limits::MOST_WORKERS;
 use std::env::FillError;
@@ -6,42 +6,42 @@ use std::rt::{Clock, Env};
 use std::sync::atomic::{AtomicBool, AtomicU64, Ordering};
 use std::time::{Duration, Instant};
 
-/// The variable that asks for it.
+/// The environment variable that turns the progress line on.
 const VARIABLE: &str = "PLEX_PROGRESS";
 
-/// The clock is looked at after each job whose number is a multiple of this one.
+/// The clock is read after each job whose number is a multiple of this.
 const JOBS_A_LOOK: u64 = 256;
 
-/// The clock is looked at after each job of so many instructions.
+/// The clock is read after each job of at least this many instructions.
 const LONG: u64 = 4096;
 
-/// The clock is looked at after each job whose number is a multiple of this one, where no steps are
-/// counted.
+/// Where steps are not counted, the clock is read after each job whose number is a multiple of
+/// this.
 const UNCOUNTED_A_LOOK: u64 = 16;
 
-/// How many milliseconds pass between two lines.
+/// The time between two updates of the line, in milliseconds.
 const PAUSE: u64 = 1000;
 
-/// A gate that tells, once a second, how many jobs have ended and how many end in a second, on one
-/// line that it writes over.
+/// A gate that shows, once a second, how many jobs have ended and how many end per second, on one
+/// line that it overwrites.
 #[derive(Drop)]
 pub struct Progress<'a, R> {
     rt: &'a R,
     begun: Instant,
-    /// The number of the job that was seen last.
+    /// The number of the last job seen.
     seen: AtomicU64,
-    /// How many jobs had ended when the numbers began anew: a run that goes on with another
+    /// How many jobs had ended when the numbers last restarted: a run that continues with another
     /// exchange may count from 1 again.
     before: AtomicU64,
-    /// When the line was told last, in milliseconds since the beginning.
+    /// The time of the last update, in milliseconds since the start.
     told: AtomicU64,
-    /// How many jobs had ended then.
+    /// How many jobs had ended at the last update.
     ended: AtomicU64,
-    /// Whether a line stands there.
+    /// Whether the line is on the terminal.
     shown: AtomicBool,
 }
 
-/// Whether the environment asks for it: the variable is set, and not empty.
+/// Whether the environment turns the progress line on: the variable is set and not empty.
 pub fn is_asked<R: Env>(rt: &R) -> bool {
     let mut value = [0; 16];
     match rt.var(VARIABLE, &mut value) {
@@ -52,7 +52,7 @@ pub fn is_asked<R: Env>(rt: &R) -> bool {
 }
 
 impl<'a, R: Clock + Eprint> Progress<'a, R> {
-    /// That of a run that begins now; none where there is no clock.
+    /// Starts the clock of a run; `None` where there is no clock.
     pub fn begin(rt: &'a R) -> Option<Progress<'a, R>> {
         let begun = Instant::now(rt).ok()?;
         Some(Progress {
@@ -66,9 +66,9 @@ impl<'a, R: Clock + Eprint> Progress<'a, R> {
         })
     }
 
-    /// The job of this number has ended: tells the line where a second has passed. Of jobs that run
-    /// at once a later one may have been seen before; a number that is farther below is one of
-    /// numbers that began anew.
+    /// Called when the job of this number has ended: updates the line if a second has passed. Among
+    /// parallel jobs a later one may have been seen before, so a smaller number is taken for a
+    /// restart of the count only where it is smaller by more than the most workers.
     #[cold]
     #[inline(never)]
     fn look(&self, job: u64) {
@@ -94,7 +94,7 @@ impl<'a, R: Clock + Eprint> Progress<'a, R> {
         }
     }
 
-    /// Tells that so many jobs have ended, so long after the last line.
+    /// Shows the number of jobs ended; `since` is the time since the last update, in milliseconds.
     fn tell(&self, jobs: u64, since: u64) {
         let ended = self.ended.swap(jobs, Ordering::SeqCst);
         let more = jobs.saturating_sub(ended);
@@ -105,7 +105,7 @@ impl<'a, R: Clock + Eprint> Progress<'a, R> {
 }
 
 impl<R: Eprint> Progress<'_, R> {
-    /// Clears the line, where one stands there.
+    /// Clears the line if it is on the terminal.
     pub fn clear(&self) {
         if self.shown.swap(false, Ordering::SeqCst) {
             let _ = eprint!(self.rt; "\r\x1b[K");
@@ -124,8 +124,8 @@ impl<R: Clock + Eprint> Gate for Progress<'_, R> {
     }
 }
 
-/// Whether the clock is to be looked at after the job of this number, which ran so many steps; none
-/// of them where they are not counted.
+/// Whether to read the clock after the job of this number. `steps` is the number of its steps, 0
+/// where steps are not counted.
 #[inline]
 fn is_due(job: u64, steps: u64) -> bool {
     if steps == 0 {

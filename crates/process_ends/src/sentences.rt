@@ -1,6 +1,6 @@
-// What the programs say of each fault: its word, as the line of the output has it, and a sentence.
-// docs/FORMATS.md has these rows too, and tools/sentences_table compares them: keep each row a pair
-// of texts and each reason a text, behind an arrow and in the order of the document.
+// The message for each fault: its word, as in the output's line, and a sentence. docs/FORMATS.md
+// has the same rows, and tools/sentences_table compares them: keep each row a pair of texts and
+// each reason a text, after an arrow and in the order of the document.
 use answer_meaning::{CertificateFault, FileFault, Rule};
 use block_change::Misfit;
 use job_table::TableRule;
@@ -9,10 +9,10 @@ use signal_trace::FilterRule;
 use std::io::ErrorKind;
 use text_rules::LinkRule;
 
-/// The word of a fault, and the sentence that says what is wrong.
+/// The word of a fault, and the sentence that explains it.
 pub type Row = (&'static str, &'static str);
 
-/// No rule has this number.
+/// For a number that no rule has.
 const NO_RULE: Row = ("N", "no rule of a text");
 
 /// The word and the sentence of a fault.
@@ -27,7 +27,7 @@ pub fn row_of(fault: FileFault) -> Row {
     }
 }
 
-/// Of an exchange text.
+/// For an exchange text.
 fn source_row(rule: Rule) -> Row {
     match rule {
         Rule::TooLarge => ("TOOLARGE", "the text is over 16,777,216 bytes"),
@@ -42,7 +42,7 @@ fn source_row(rule: Rule) -> Row {
     }
 }
 
-/// Of a rule of signals and blocks.
+/// For a rule of signals and blocks.
 fn numbered_row(number: u8) -> Row {
     match number {
         1 => ("N1", "a name is declared twice"),
@@ -69,7 +69,7 @@ fn numbered_row(number: u8) -> Row {
     }
 }
 
-/// Of a rule of links.
+/// For a rule of links.
 fn link_row(rule: LinkRule) -> Row {
     match rule {
         LinkRule::NoReceiver => ("NORECEIVER", "no block receives what is sent"),
@@ -82,7 +82,7 @@ fn link_row(rule: LinkRule) -> Row {
     }
 }
 
-/// Of a signal file.
+/// For a signal file.
 fn signals_row(rule: SignalsRule) -> Row {
     match rule {
         SignalsRule::TooLarge => ("TOOLARGE", "the file is over 16,777,216 bytes"),
@@ -98,7 +98,7 @@ fn signals_row(rule: SignalsRule) -> Row {
     }
 }
 
-/// Of a table of periodic signals: what a signal file may have too is said as there.
+/// For a table of periodic signals. A fault that a signal file can have too gets the same row.
 fn table_row(rule: TableRule) -> Row {
     match rule {
         TableRule::TooLarge => signals_row(SignalsRule::TooLarge),
@@ -111,7 +111,7 @@ fn table_row(rule: TableRule) -> Row {
     }
 }
 
-/// Of a filter.
+/// For a filter.
 fn filter_row(rule: FilterRule) -> Row {
     match rule {
         FilterRule::TooLarge => signals_row(SignalsRule::TooLarge),
@@ -153,7 +153,7 @@ fn certificate_row(fault: CertificateFault) -> Row {
     }
 }
 
-/// What an exchange lacks that is to take the place of another one.
+/// For an exchange that cannot replace the present one: what it lacks.
 fn change_row(misfit: Misfit) -> Row {
     match misfit {
         Misfit::Entry { entry: _ } => (
@@ -178,7 +178,7 @@ pub fn read_reason(kind: Option<ErrorKind>) -> &'static str {
     }
 }
 
-/// Status 7: why the output could not be written whole.
+/// Status 7: why the output could not be written in full.
 pub fn write_reason(kind: Option<ErrorKind>) -> &'static str {
     match kind {
         Some(ErrorKind::StorageFull | ErrorKind::QuotaExceeded) => "no space is left",

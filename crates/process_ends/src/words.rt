@@ -1,4 +1,4 @@
-// The words of the command.
+// The command's arguments.
 use plex_io::Word;
 use plex_num::{Memory, Seq};
 use std::alloc::Global;
@@ -6,7 +6,7 @@ use std::env;
 use std::io::ErrorKind;
 use std::rt::Env;
 
-/// The words of the command; none, where they are no text.
+/// The process's arguments without the program's name; `None` where one is not UTF-8.
 pub fn words_of(rt: &(impl Env + AllocGlobal), alloc: Global) -> Result<Option<Vec<Word>>, Memory> {
     let mut words = Vec::new(alloc);
     let args = match env::args(rt) {
