@@ -1,4 +1,4 @@
--- The exchange that the text of a file means, or its first fault.
+-- The exchange that a file's text denotes, or the first fault of the text.
 use Rattle.std.proofs.Common.{◌≡◌, ℕ, ◌≤◌, List, length, Some, sym, ◌∙◌, ap, slice_get, Result, Ok}
 use Rattle.std.proofs.Common.{Err, true, IfOk, arith, subst, suc, ◌+◌, ◌-◌, Bool, false, nat_eq, []}
 use Rattle.std.proofs.Common.{◌∷◌, Option, None, refl, if◌then◌else◌, ◌<◌, get_or, map, nat_lt}
@@ -99,7 +99,7 @@ found_fault said f is = ap exchange_of is
 
 pub ruleset found_rules = (found_tree, found_fault)
 
--- a tree that the tokens of a text spell
+-- the syntax tree of a text's tokens
 
 pub text_spells : (text : List ℕ) (tokens : List Token) (t : Tree) → tokens_of text ≡ Ok tokens
     → length tokens ≤ length text → length text ≤ MOST_BYTES → Sentence t tokens → IsSpelled t
@@ -109,7 +109,7 @@ text_spells text tokens t lexed fewer small spelled = record {
       ((tree_least t).long tokens spelled) fewer small;
 }
 
--- the same of the tree that was found
+-- the same for the result of the parser
 pub all_spelled : (text : List ℕ) (tokens : List Token) (r : Result (Result Tree SourceFault) Memory)
     → tokens_of text ≡ Ok tokens → length tokens ≤ length text → length text ≤ MOST_BYTES
     → IfOk r (λ found. IfOk found (λ t. Sentence t tokens)) → IfOk r (λ found. IfOk found IsSpelled)
@@ -126,12 +126,12 @@ all_found text tokens r lexed found = subst (λ l. Finds (tree_of_lexed text l) 
 abbrev Lexed : Type 0
 Lexed = Result (List Token) LexFault
 
--- by cases on a test
+-- by cases on a condition
 pick : {Z P : Type 0} (c : Bool) {x y z : Z} → (x ≡ z → P) → (y ≡ z → P) → (if c then x else y) ≡ z → P
 pick true f g e = f e
 pick false f g e = g e
 
--- the tokens are at most so many
+-- there are at most this many tokens
 abbrev AreFew : ℕ → Lexed → Type 0
 AreFew n r = (tokens : List Token) → r ≡ Ok tokens → length tokens ≤ n
 
@@ -258,12 +258,12 @@ has_words t keeps = record { signals = signals_plain 0 t.signals keeps.0; blocks
 
 -- ## The exchange of a file
 
--- what a stage gave, and what came of it
+-- the value of a stage, and the result of the next stage on it
 pub gone_on : {A B : Type 0} (s : Out A) (go : A → Out B) (b : B) → goes_on s go ≡ Ok b → (a : A) × (s ≡ Ok a) × (go a ≡ Ok b)
 gone_on (Ok a) go b e = (a, refl, e)
 gone_on (Err r) go b e = absurd (none-some b (ap result_ok e))
 
--- a text that is not too large
+-- a text within the size limit
 
 fits : (limit : ℕ) (b : Bool) (bytes text : List ℕ) → nat_lt limit (length bytes) ≡ b → (if b then None else Some bytes) ≡ Some text → length text ≤ limit
 fits limit true bytes text large e = absurd (none-some text e)
@@ -307,12 +307,12 @@ breaks_none t x e = by (text_told t) refl e
     by None told e = (told, same_Some (exchange_of_tree t) x (ap result_ok e))
     by (Some broken) told e = absurd (none-some x (ap result_ok e))
 
--- it keeps what exchanges keep, and its names are words
+-- a valid exchange whose names are words
 pub record IsAccepted (x : Exchange) : Type 0 where
   pub kept : IsExchange x
   pub words : HasWords x
 
--- the exchange of a tree that was found is one of a tree
+-- a result of the resolver is the exchange of the tree
 resolves : (r : Result Exchange TextFault) (x : Exchange) → resolved_or r ≡ Ok x → r ≡ Ok x
 resolves (Ok y) x e = ap Ok (same_Some y x (ap result_ok e))
 resolves (Err f) x e = absurd (none-some x (ap result_ok e))

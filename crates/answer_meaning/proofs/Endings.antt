@@ -1,4 +1,4 @@
--- From what a command comes to, to the answer and the end.
+-- From the outcome of a command to its answer and the end of the program.
 use Rattle.std.proofs.Common.{◌≡◌, ℕ, List, Option, Some, None, Result, Ok, Err, IfOk, IfSome}
 use Rattle.std.proofs.Common.{IsSomeAnd, ◌⊎◌, ap, refl, sym, subst, ◌∙◌, inl, inr, ◌+◌, ◌<◌, ◌≤◌}
 use Rattle.std.proofs.Common.{◌++◌, length, take, arith, min, append-nil}
@@ -37,7 +37,7 @@ some_none : (c : Command) → Some c ≡ None → ⊥
 unfolding IsSomething
 some_none c e = subst IsSomething e tt
 
--- an end with an answer, as one of those that are such
+-- an end with an answer that satisfies `Is`
 ends_as : (Is : Answer → Type 0) (a : Answer) (before after : Option (List ℕ)) (s : Status) → Is a
     → ProcessEnds a before after s → ProcessEndsAs Is before after s
 ends_as Is a before after status.Read is ends = tt
@@ -50,7 +50,7 @@ pub ends_held : (Is : Files → Answer → Type 0) (held : Option Files) (a : An
 ends_held Is None a before after s is ends = tt
 ends_held Is (Some files) a before after s is ends = ends_as (Is files) a before after s is ends
 
--- the answer was written, and then its status comes but where a write failed
+-- the answer was written, so its status is returned unless a write failed
 pub complete_written : (Is : Files → Answer → Type 0) (held : Option Files) (a : Answer) (size : Option ℕ)
     (written : Option (List ℕ)) (shelf shelf' sink sink' : ℕ) (s : Status) → IfSome held (λ files. Is files a)
     → (s ≡ status.Write → WriteCause size written sink sink') → (s ≡ status.Write) ⊎ (s ≡ a.status)
@@ -60,7 +60,7 @@ complete_written Is (Some files) a size written shelf shelf' sink sink' s is cau
 complete_written Is (Some files) a size written shelf shelf' sink sink' s is cause (inr same) =
     λ no_read no_write. inl (record { answer = a; is = is; status = same })
 
--- a read failed, or a file is not held
+-- a read failed, or a file is missing
 pub complete_failed : (Is : Files → Answer → Type 0) (held : Option Files) (shelf shelf' sink sink' : ℕ)
     → Rose shelf shelf' → IfSome held (λ files. IsComplete (Is files) shelf shelf' sink sink' status.Read)
 complete_failed Is None shelf shelf' sink sink' rose = tt
@@ -87,7 +87,7 @@ pub complete_memory : (Is : Files → Answer → Type 0) (held : Option Files) (
 complete_memory Is None shelf shelf' sink sink' = tt
 complete_memory Is (Some files) shelf shelf' sink sink' = λ no_read no_write. inr refl
 
--- the answer to these words, where they are a command that comes to this
+-- the answer to these arguments, where they are a command with this outcome
 answer_is : (words : List Word) (c : Command) (files : Files) (o : Out Answer) → Some c ≡ shape words → performed c files o → IsAnswer words files (answer_of o)
 unfolding IsAnswer
 answer_is words c files o e p = subst (λ s. IsAnswerBy s files (answer_of o)) e (record { outcome = o; comes = p; told = refl })
@@ -97,7 +97,7 @@ pub answers_command : (held : Option Files) (words : List Word) (c : Command) (b
 answers_command held words c b a r e p = performs_as held (performed c) (λ files o. IsAnswer words files (answer_of o))
     b a r (λ files o comes. answer_is words c files o e comes) p
 
--- no words of a command
+-- the arguments are no command
 usage_is : (words : List Word) (files : Files) (a : Answer) → None ≡ shape words → usage_answer ≡ a → IsAnswer words files a
 unfolding IsAnswer
 usage_is words files a e is = subst (λ s. IsAnswerBy s files a) e is
@@ -109,14 +109,14 @@ answers_usage held words n r e reads = performs_as held (λ files o. Ok usage_an
     (λ files o is. usage_is words files (answer_of o) e (ap answer_of is))
     (performs_told held (λ o. Ok usage_answer ≡ o) n r reads)
 
--- the status of a run
+-- the status of a run is one with a text
 plain_ending : (s : Status) → IsEnding s → WritesText s
 plain_ending status.Done e = tt
 plain_ending status.Restart e = tt
 plain_ending status.Limit e = tt
 plain_ending s e = absurd e
 
--- that of a refusal
+-- the status of a refusal is one with a text
 plain_refusal : (s : Status) → IsRefusal s → WritesText s
 plain_refusal status.Source e = tt
 plain_refusal status.Signals e = tt
@@ -126,14 +126,14 @@ plain_refusal status.Filter e = tt
 plain_refusal status.Change e = tt
 plain_refusal s e = absurd e
 
--- the status of a run is that of no refusal
+-- the status of a run is not that of a refusal
 no_refusal : (s : Status) → IsEnding s → ¬ (IsRefusal s)
 no_refusal status.Done e = λ r. r
 no_refusal status.Restart e = λ r. r
 no_refusal status.Limit e = λ r. r
 no_refusal s e = absurd e
 
--- the status of the refusal of a fault
+-- the answer to a fault has the status of a refusal
 refusal_status : (f : FileFault) (a : Answer) → IsRefusalOf f a → IsRefusal a.status
 unfolding source_refusal signals_refusal certificate_refusal table_refusal filter_refusal
 refusal_status (file.Source which f) a is = subst (λ (b : Answer). IsRefusal b.status) is tt
@@ -161,13 +161,13 @@ made_refusal Unshaped usage_line a f shaped is =
       fits = is;
     }
 
--- the answer was written whole, and its fault is told
+-- the answer was written in full, and its fault is reported
 pub fault_written : (f : Option FileFault) (a : Answer) (before after : Option (List ℕ)) → FitsFault f a
     → after ≡ appended before a.text → TellsFault before after a.status f
 fault_written None a before after fits text = fits
 fault_written (Some f) a before after fits text = record { answer = a; is = fits; written = record { status = refl; text = text } }
 
--- the answer of a stage is that of an ending or of a refusal
+-- the answer of a stage is that of a run or of a refusal
 pub makes_told : (Unshaped : Type 0) (usage_line : Answer) (held : Option Files) (work : Files → Out Answer → Type 0)
     (b a : ℕ) (r : Result Answer Stop) → (Unshaped → ⊥) → Performs held work b a r → IfOk r (λ a. IsEnding a.status)
     → Makes Unshaped usage_line r
@@ -201,10 +201,11 @@ pub ruleset answering = (answers_command, answers_usage, makes_command, makes_us
 
 pub ruleset ending = (ends_held, complete_written, complete_failed, complete_absent, complete_memory, read_failed, read_absent)
 
--- ## Devices that never fail: each end is that of the answer, where there is room for its text, or
--- memory was refused
+-- ## Devices that never fail
+--
+-- If there is room for the answer's text, each end is that of the answer, or out of memory.
 
--- a proper front of the text was written, and the sink is full: then it had no room for the whole
+-- a proper prefix was written and the sink is full, so there was no room for the whole text
 no_room : (old new text : List ℕ) (size : ℕ) → WroteLess (Some old) (Some new) text → size ≤ length new → length old + length text ≤ size → ⊥
 no_room old new text size less full room =
     let count = less.count in
@@ -214,11 +215,11 @@ no_room old new text size less full room =
     let fewer : count < length text = less.less in
     omega (arith, long, part, fewer, full, room)
 
--- a count that stands at 0 has not risen
+-- a count that is still 0 has not risen
 stays : Rose 0 0 → ⊥
 stays rose = omega (arith, rose)
 
--- the answer is that a file is not held, and nothing was written
+-- the answer is that a file is missing, and nothing was written
 not_read : (words : List Word) (files : Files) (old new : List ℕ) → Rose 0 0 ⊎ IsAnswer words files not_held → new ≡ old
     → IsWhole (IsAnswer words files) old new status.Read
 not_read words files old new (inl rose) silent = absurd (stays rose)
@@ -249,6 +250,6 @@ whole_end words files old new status.Table ends read write room = inr (written _
 whole_end words files old new status.Change ends read write room = inr (written _ _ _ _ ends.answer ends.is ends.ends)
 whole_end words files old new status.Filter ends read write room = inr (written _ _ _ _ ends.answer ends.is ends.ends)
 
--- want of memory, and nothing was written
+-- out of memory, and nothing was written
 pub silent_end : (old new : List ℕ) (s : Status) → (s ≡ status.Memory → Some new ≡ Some old) → s ≡ status.Memory → new ≡ old
 silent_end old new s silent is = same_Some _ _ (silent is)

@@ -1,4 +1,4 @@
--- Stages, one after the other, and what refusals make of them.
+-- Sequencing of stages, and what a refusal does to the later ones.
 use Rattle.std.proofs.Common.{◌≡◌, ℕ, ◌+◌, ◌<◌, ◌≤◌, Bool, true, false, nat_lt, List, length, take}
 use Rattle.std.proofs.Common.{Option, Some, None, Result, Ok, Err, IfSome, IsSomeAnd, refl, sym}
 use Rattle.std.proofs.Common.{subst, ap, ◌∙◌, ◌++◌, append_assoc, IfOk, arith, min}
@@ -29,14 +29,14 @@ use Rattle.answer_meaning.specs.Certificates.{read}
 use Rattle.answer_meaning.specs.declared.fault.CertificateFault.{CertificateFault}
 use Rattle.answer_meaning.specs.declared.fault.CertificateFault.TheVariants.{BadText, TooLarge}
 
--- a text that fits, and one that does not
+-- a text within the size limit, and one above it
 pub is_fitting : (bytes : List ℕ) → length bytes ≤ MOST_BYTES → Some bytes ≡ fitting MOST_BYTES bytes
 is_fitting bytes le = sym (rw (le-ltb MOST_BYTES (length bytes) le) refl)
 
 pub none_fitting : (bytes : List ℕ) → MOST_BYTES < length bytes → None ≡ fitting MOST_BYTES bytes
 none_fitting bytes lt = sym (rw (lt-ltb MOST_BYTES (length bytes) lt) refl)
 
--- what is read of a text fits as the text does
+-- the limit holds for the bytes read exactly if it holds for the file
 read_fits : (limit : ℕ) (bytes got : List ℕ) → got ≡ take (limit + 1) bytes → fitting limit bytes ≡ fitting limit got
 read_fits limit bytes got e = by (nat_lt limit (length got)) refl
   where
@@ -65,12 +65,12 @@ text_comes held name got kept b a given is later = record { ok = by held given; 
     by None e = tt
     by (Some files) e = of (files name) e
 
--- there is none
+-- the file is missing
 pub text_absent : (files : Option Files) (name : List ℕ) → Lacks files name → IsSomeAnd files (λ f. text_at name f ≡ Err not_held)
 text_absent None name e = absurd e
 text_absent (Some files) name e = rw e refl
 
--- a stage that stops, before what comes of it
+-- a stage that stops stops the whole sequence
 stops_on : {A B : Type 0} (held : Option Files) (was : Files → Out A → Type 0) (work : Files → Out B → Type 0) (b a : ℕ)
     (e : Stop) → ((files : Files) (r : Answer) → was files (Err r) → work files (Err r)) → StopsBy held was b a e
     → StopsBy held work b a e
@@ -86,7 +86,7 @@ stopped : {A B : Type 0} (held : Option Files) (f : Files → Out A) (work : Fil
     → Performs held work b a (Err e)
 stopped held f work b a e so c = record { ok = tt; stops = stops_on held (λ files o. f files ≡ o) work b a e so c.stops; later = c.later }
 
--- a stage, and what comes of its value
+-- a stage, then the next one on its value
 went_on : {A B : Type 0} (held : Option Files) (f : Files → Out A) (next work : Files → Out B → Type 0) (b m a : ℕ)
     (v : A) (r : Result B Stop) → ((files : Files) (o : Out B) → f files ≡ Ok v → next files o → work files o)
     → Comes held f b m (Ok v) → Performs held next m a r → Performs held work b a r
@@ -104,7 +104,7 @@ went_on {A = A} {B = B} held f next work b m a v (Err e) so c d = record
       by h stop.Failed c le s = omega (arith, le, s)
       by h stop.Memory c le s = tt
 
--- what a command comes to, told in other words
+-- a weaker description of the outcome
 pub performs_as : {A : Type 0} (held : Option Files) (was work : Files → Out A → Type 0) (b a : ℕ) (r : Result A Stop)
     → ((files : Files) (o : Out A) → was files o → work files o) → Performs held was b a r → Performs held work b a r
 performs_as held was work b a (Ok v) so c = record { ok = by held c.ok; stops = tt; later = c.later } where
@@ -113,7 +113,7 @@ performs_as held was work b a (Ok v) so c = record { ok = by held c.ok; stops = 
   by (Some files) c = so files (Ok v) c
 performs_as held was work b a (Err e) so c = record { ok = tt; stops = stops_on held was work b a e (λ files r. so files (Err r)) c.stops; later = c.later }
 
--- the same of functions
+-- the same for functions
 on_err : {A B : Type 0} (s : Out A) (go : A → Out B) (r : Answer) → s ≡ Err r → goes_on s go ≡ Err r
 on_err s go r is = ap (λ s. goes_on s go) is
 
@@ -130,7 +130,7 @@ pub comes_go : {A B : Type 0} (held : Option Files) (f : Files → Out A) (g : F
 comes_go held f g b m a v r c d = went_on held f (λ files o. g files v ≡ o) (λ files o. goes_on (f files) (g files) ≡ o)
     b m a v r (λ files o is gone. on_ok (f files) (g files) v o is gone) c d
 
--- the same of relations
+-- the same for relations
 goes_err : {A : Type 0} (s : Out A) (Go : A → Out Answer → Type 0) (r : Answer) → s ≡ Err r → ComesOf s Go (Err r)
 goes_err s Go r is = subst (λ s. ComesOf s Go (Err r)) (sym is) refl
 
@@ -160,7 +160,7 @@ performs_told held Is n (Err stop.Memory) s = record { ok = tt; stops = tt; late
 pub comes_answer : {A : Type 0} (held : Option Files) (said : A) (n : ℕ) (v : A) → v ≡ said → Comes held (λ files. Ok said) n n (Ok v)
 comes_answer held said n v is = performs_told held (λ o. Ok said ≡ o) n (Ok v) (ap Ok (sym is))
 
--- memory was refused
+-- out of memory
 refused_memory : {A : Type 0} (held : Option Files) (Is : Files → Out A → Type 0) (b a : ℕ) (e : Stop) → e ≡ stop.Memory → b ≤ a → Performs held Is b a (Err e)
 refused_memory {A = A} held Is b a e is later = subst (λ f. Performs {A = A} held Is b a (Err f)) (sym is) (record { ok = tt; stops = tt; later = later })
 
@@ -171,14 +171,14 @@ pub ruleset comes_rules = (comes_stop, comes_go, comes_answer, performs_told, pe
 
 pub ruleset performs_rules = (performs_stop, performs_go, performs_told, performs_memory)
 
--- a text's refusal
+-- a stage that reads a text refuses it
 pub reads_stop : {A B : Type 0} (f : Out A) (g : A → Out B) (e : Stop) → ReadAs f (Err e) → ReadAs (goes_on f g) (Err e)
 reads_stop f g (stop.Told r k) s = (s.0, on_err f g r s.1)
 reads_stop f g stop.NotHeld s = s
 reads_stop f g stop.Failed s = s
 reads_stop f g stop.Memory s = tt
 
--- a text's value, and what comes of it
+-- a stage that reads a text, then the next one on its value
 pub reads_go : {A B : Type 0} (f : Out A) (g : A → Out B) (v : A) (r : Result B Stop) → f ≡ Ok v → ReadAs (g v) r → ReadAs (goes_on f g) r
 reads_go f g v (Ok w) is s = on_ok f g v (Ok w) is s
 reads_go f g v (Err (stop.Told r k)) is s = (s.0, on_ok f g v (Err r) is s.1)
@@ -192,13 +192,13 @@ reads_memory f e is = subst (λ s. ReadAs f (Err s)) (sym is) tt
 pub reads_answer : {A : Type 0} (said v : A) → v ≡ said → ReadAs (Ok said) (Ok v)
 reads_answer said v is = ap Ok (sym is)
 
--- the same of an outcome that is told by a relation
+-- the same for an outcome that is described by a relation
 pub told_memory : {A : Type 0} (Is : Out A → Type 0) (e : Stop) → e ≡ stop.Memory → TellsOutcome Is (Err e)
 told_memory Is e is = subst (λ s. TellsOutcome Is (Err s)) (sym is) tt
 
 pub ruleset reads_rules = (reads_stop, reads_go, reads_memory, reads_answer)
 
--- the value of a file, or the stop of its first fault
+-- the value of a file, or the stop for its first fault
 pub refused_ok : {A F : Type 0} (by : F → Answer) (said : Result A F) (a : A) → Ok a ≡ said → ReadAs (or_refused by said) (Ok a)
 refused_ok by said a is = ap (or_refused by) (sym is)
 
@@ -214,7 +214,7 @@ refused_fault by said f s is stops = refused_so (or_refused by said) (by f) s (a
 
 pub ruleset refused_rules = (refused_ok, refused_fault, refused_so)
 
--- the stop that a line of a refusal makes
+-- the stop for the line of a refusal
 
 pub told_so : (f : FileFault) (s : Status) (said : List ℕ) (line : Result (List ℕ) Memory) (t : Stop)
     → IsRefusalOf f (record { status = s; text = said }) → IfOk line (λ text. text ≡ said) → IsStopWith f s line t
@@ -224,11 +224,11 @@ told_so f s said (Ok text) t refuses is stops =
     subst (IsStopOf (record { status = s; text = said })) (sym same) (refuses, refl)
 told_so f s said (Err m) t refuses is stops = subst (IsStopOf (record { status = s; text = said })) (sym stops) tt
 
--- a word of two pieces
+-- a text that was written in two pieces
 pub two_pieces : (old middle new first second : List ℕ) → middle ≡ old ++ first → new ≡ middle ++ second → new ≡ old ++ (first ++ second)
 two_pieces old middle new first second a b = b ∙ ap (λ l. l ++ second) a ∙ append_assoc old first second
 
--- ## A run with a certificate
+-- ## Runs with a certificate
 
 pub judged_large : (x : Exchange) → IsJudged x None (Some TooLarge)
 judged_large x = large
@@ -236,7 +236,7 @@ judged_large x = large
 pub judged_bad : (x : Exchange) (text : List ℕ) (line : ℕ) → HasBadLine text line → IsJudged x (Some text) (Some (BadText line))
 judged_bad x text line is = bad text line is
 
--- the verdict on a certificate is that on its text
+-- the verdict on a certificate is the verdict on its text
 pub text_kept : (x : Exchange) (text : List ℕ) (c : Certificate)
     (r : Result (Result KeptSummaries CertificateFault) Memory) → IsTextOf text c → IfOk r (IsAcceptedOrNot x c)
     → IfOk r (IsKeptOrNot x (Some text))
@@ -244,7 +244,7 @@ text_kept x text c (Ok (Ok k)) is verdict = record { judged = read text c None i
 text_kept x text c (Ok (Err f)) is verdict = read text c (Some f) is verdict
 text_kept x text c (Err m) is verdict = tt
 
--- the run itself
+-- the run with an accepted certificate
 pub certified_runs : (x : Exchange) (text : Option (List ℕ)) (a : Answer) (r : Result Answer Stop)
     → IsJudged x text None → ReadAs (Ok a) r → TellsOutcome (IsCertifiedRun x text a) r
 certified_runs x text a (Ok v) judged reads = record { fault = None; judged = judged; comes = reads }
@@ -253,7 +253,7 @@ certified_runs x text a (Err stop.NotHeld) judged reads = absurd reads
 certified_runs x text a (Err stop.Failed) judged reads = absurd reads
 certified_runs x text a (Err stop.Memory) judged reads = tt
 
--- a refusal
+-- the refusal of a certificate
 pub certified_refused : (x : Exchange) (text : Option (List ℕ)) (a : Answer) (f : CertificateFault) (s : Stop)
     → IsJudged x text (Some f) → IsStopOf (certificate_refusal f) s → TellsOutcome (IsCertifiedRun x text a) (Err s)
 certified_refused x text a f (stop.Told b k) judged is = (is.0, record { fault = Some f; judged = judged; comes = ap Err is.1 })

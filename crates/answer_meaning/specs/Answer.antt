@@ -1,4 +1,4 @@
--- What the program answers: a status and a text for each list of words and each set of files.
+-- The answer of the program: a status and a text for each list of arguments and each set of files.
 use Rattle.std.specs.Prelude.{◌≡◌, List, Option, Some, None, Ok, Err}
 use Rattle.plex_io.specs.Files.{Files}
 use Rattle.answer_meaning.specs.Text.{usage_text}
@@ -18,7 +18,8 @@ use Rattle.answer_meaning.specs.ListAnswer.{list_of}
 use Rattle.answer_meaning.specs.LoadAnswer.{load_of}
 use Rattle.answer_meaning.specs.ExchangeAnswer.{AnswersAnalysis, AnswersCertificate, FromExchange}
 
--- what a command comes to: what the compiled code leaves is what the source means
+-- the outcome of a command; that of `run`, which executes compiled code, is that of the source
+-- semantics
 abbrev pub performed : Command → Files → Out Answer → Type 0
 performed (Run w) files o = RunComes w w.certificate files o
 performed (Single w) files o = run_of w files ≡ o
@@ -35,7 +36,7 @@ abbrev pub answer_of : Out Answer → Answer
 answer_of (Ok a) = a
 answer_of (Err a) = a
 
--- what a command comes to, and the answer then
+-- an outcome of the command, and the answer that follows from it
 pub record IsAnswerOf (c : Command) (files : Files) (a : Answer) : Type 0 where
   pub outcome : Out Answer
   pub comes : performed c files outcome
@@ -49,6 +50,6 @@ abbrev pub IsAnswerBy : Option Command → Files → Answer → Type 0
 IsAnswerBy None files a = usage_answer ≡ a
 IsAnswerBy (Some c) files a = IsAnswerOf c files a
 
--- the answer to these words over these files
+-- the answer to these arguments and these files
 unfoldable pub IsAnswer : List Word → Files → Answer → Type 0
 IsAnswer words files a = IsAnswerBy (shape words) files a

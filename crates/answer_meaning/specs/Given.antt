@@ -17,11 +17,11 @@ use Rattle.answer_meaning.specs.declared.known.KnownExchange.{KnownExchange}
 use Rattle.answer_meaning.specs.Outcome.{Out, goes_on, not_held, or_refused}
 use Rattle.answer_meaning.specs.Text.{signals_refusal, source_refusal}
 
--- a text that is not too large
+-- the text, if it is within the size limit
 abbrev pub fitting : ℕ → List ℕ → Option (List ℕ)
 fitting limit bytes = (if nat_lt limit (length bytes) then None else Some bytes)
 
--- the text of a file, where it is not too large
+-- the text of a file, if it is within the size limit
 abbrev pub text_of_file : Option (List ℕ) → Out (Option (List ℕ))
 text_of_file None = Err not_held
 text_of_file (Some bytes) = Ok (fitting MOST_BYTES bytes)
@@ -29,7 +29,7 @@ text_of_file (Some bytes) = Ok (fitting MOST_BYTES bytes)
 abbrev pub text_at : Word → Files → Out (Option (List ℕ))
 text_at name files = text_of_file (files name)
 
--- the exchange that an exchange text means, which is the first one of the command or another one
+-- the exchange that an exchange text denotes; `which` tells the command's exchange texts apart
 abbrev pub exchange_of_file : Which → Option (List ℕ) → Out Exchange
 exchange_of_file which text = or_refused (source_refusal which) (exchange_of_text text)
 
@@ -40,12 +40,12 @@ exchange_as which name files = goes_on (text_at name files) (λ text. exchange_o
 abbrev pub exchange_at : Word → Files → Out Exchange
 exchange_at name files = exchange_as First name files
 
--- a stage that makes an exchange known comes to that exchange
+-- the result of a stage that builds a `KnownExchange`, as an exchange
 abbrev pub exchange_from : Result KnownExchange Stop → Result Exchange Stop
 exchange_from (Ok known) = Ok known.exchange
 exchange_from (Err stop) = Err stop
 
--- the signal lines of a text, or its first fault; a text that is too large has no line
+-- the signal lines of a text, or its first fault; the fault of a text that is too large has no line
 abbrev pub lines_of_file : Exchange → Option (List ℕ) → Out (List Line)
 lines_of_file x None = Err (signals_refusal (breach TooLarge 0))
 lines_of_file x (Some text) = or_refused signals_refusal (signal_lines x text)

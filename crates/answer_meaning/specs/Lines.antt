@@ -1,4 +1,4 @@
--- The lines of a signal file that was read.
+-- The lines of a signal file after reading.
 use Rattle.std.specs.Prelude.{◌≡◌, ℕ, ◌<◌, ◌^◌, List, [], length, map, Ok}
 use Rattle.exchange_model.specs.declared.exchange.Exchange.{Exchange}
 use Rattle.signal_file.specs.declared.line.Line.{Line}
@@ -6,7 +6,7 @@ use Rattle.signal_file.specs.Lines.{signal_lines}
 use Rattle.source_meaning.specs.Valid.{LinesFit}
 use Rattle.run_books.specs.Lines.{coming_of}
 
--- the lines of a signal file fit the exchange, and are few
+-- the lines fit the exchange, and there are fewer than 2^32
 pub record AreRead (x : Exchange) (lines : List Line) : Type 0 where
   pub fit : LinesFit x [] (map coming_of lines)
   pub few : length lines < 2 ^ 32

@@ -11,7 +11,7 @@ use Rattle.command_words.specs.declared.status.Status.TheVariants as status
 use Rattle.answer_meaning.specs.Outcome.{Out, goes_on}
 use Rattle.answer_meaning.specs.Given.{exchange_at}
 
--- the compiled code of an exchange, which leaves what the source means
+-- the compiled code of an exchange, which has the meaning of the source
 abbrev pub code_of : Exchange → Code
 code_of x = record { ops = whole_code x; entries = entry_addresses x }
 

@@ -1,4 +1,4 @@
--- `load`: the summary of the run of a load.
+-- `load`: the summary of a synthetic load's run.
 use Rattle.std.specs.Prelude.{ℕ, List, Ok}
 use Rattle.plex_limits.specs.declared.limits.TheConstants.{MOST_BYTES}
 use Rattle.exchange_model.specs.declared.exchange.Exchange.{Exchange}
@@ -15,7 +15,7 @@ use Rattle.answer_meaning.specs.Outcome.{Out, goes_on}
 use Rattle.answer_meaning.specs.Given.{exchange_of_file, fitting, lines_of_file}
 use Rattle.answer_meaning.specs.RunAnswer.{end_of, ended_status, ending_of}
 
--- the summary of the single run of a load that ends so, and the status of that ending
+-- the summary of a single run of a load that ends so, and the status of that ending
 abbrev pub summed_answer : ℕ → State → Ending → Answer
 summed_answer calls s ending =
     record { status = ended_status ending; text = load_text calls s ending }
@@ -24,7 +24,7 @@ abbrev pub load_answer : ℕ → Exchange → List Line → Answer
 load_answer calls x lines = summed_answer calls (end_of x lines USUAL_JOBS)
     (ending_of USUAL_JOBS (end_of x lines USUAL_JOBS))
 
--- the two texts of a load stand in place of an exchange file and a signal file
+-- the load's two texts take the place of an exchange file and a signal file
 abbrev pub load_of : ℕ → Out Answer
 load_of calls =
     goes_on (exchange_of_file First (fitting MOST_BYTES (exchange_text calls))) (λ x.

@@ -1,4 +1,4 @@
--- What the top call promises.
+-- The contract of the top call.
 use Rattle.std.specs.Prelude.{◌≡◌, ℕ, List, Option, Some, None, Result, Ok, Err, IsSomeAnd, ◌⊎◌}
 use Rattle.plex_io.specs.Causes.{Rose}
 use Rattle.plex_io.specs.Files.{Files}
@@ -19,57 +19,56 @@ pub record IsWritten (a : Answer) (before after : Option (List ℕ)) (s : Status
   pub status : s ≡ a.status
   pub text : after ≡ appended before a.text
 
--- an end with this status, where this is the answer
+-- how the call ends with this status, where this is the answer
 abbrev pub ProcessEnds : Answer → Option (List ℕ) → Option (List ℕ) → Status → Type 0
 ProcessEnds a before after status.Read = Unit {0}
 ProcessEnds a before after status.Memory = Unit {0}
 ProcessEnds a before after status.Write = WroteLess before after a.text
 ProcessEnds a before after s = IsWritten a before after s
 
--- the answer is such a one, and the call ends with this status
+-- the answer satisfies `Is`, and the call ends with this status
 pub record EndsBy (Is : Answer → Type 0) (before after : Option (List ℕ)) (s : Status) : Type
     0 where
   pub answer : Answer
   pub is : Is answer
   pub ends : ProcessEnds answer before after s
 
--- an end with this status, where the answer is such a one
+-- how the call ends with this status, where the answer satisfies `Is`
 abbrev pub ProcessEndsAs : (Answer → Type 0) → Option (List ℕ) → Option (List ℕ) → Status → Type 0
 ProcessEndsAs Is before after status.Read = Unit {0}
 ProcessEndsAs Is before after status.Memory = Unit {0}
 ProcessEndsAs Is before after s = EndsBy Is before after s
 
--- a read failed in this call, or the shelf tells its files and such an answer is that one is not
--- held; nothing was written
+-- why a read failed: a device's fault in this call, or a missing file; nothing was written
 pub record ReadCause (Is : Files → Answer → Type 0) (held : Option Files) (faults faults' : ℕ)
     (before after : Option (List ℕ)) : Type 0 where
   pub cause : Rose faults faults' ⊎ IsSomeAnd held (λ files. Is files not_held)
   pub silent : after ≡ before
 
--- a write failed in this call, and a sink that tells its size is full
+-- a write failed in this call, and a sink of known size is full
 pub record WriteCause (size : Option ℕ) (written : Option (List ℕ)) (faults faults' : ℕ) : Type
     0 where
   pub cause : Rose faults faults'
   pub full : IsFull size written
 
--- the answer is such a one, of this status
+-- an answer that satisfies `Is` has this status
 pub record HasStatus (Is : Answer → Type 0) (s : Status) : Type 0 where
   pub answer : Answer
   pub is : Is answer
   pub status : s ≡ answer.status
 
--- where neither count rose, the status is the answer's, or memory was refused
+-- if no read and no write failed, the status is the answer's, or out of memory
 abbrev pub IsComplete : (Answer → Type 0) → ℕ → ℕ → ℕ → ℕ → Status → Type 0
 IsComplete Is shelf shelf' sink sink' s =
     ¬ (Rose shelf shelf') → ¬ (Rose sink sink') → HasStatus Is s ⊎ (s ≡ status.Memory)
 
--- the refusal of this fault was written whole, its line and its status
+-- the refusal of this fault was written in full, with its status
 pub record IsLineOf (f : FileFault) (before after : Option (List ℕ)) (s : Status) : Type 0 where
   pub answer : Answer
   pub is : IsRefusalOf f answer
   pub written : IsWritten answer before after s
 
--- a fault is told exactly with the status of a refusal, and it is that of the line that was written
+-- a fault is reported exactly with the status of a refusal, and it is that of the line written
 abbrev pub TellsFault : Option (List ℕ) → Option (List ℕ) → Status → Option FileFault → Type 0
 TellsFault before after s None = ¬ (IsRefusal s)
 TellsFault before after s (Some f) = IsLineOf f before after s
@@ -79,28 +78,28 @@ abbrev pub FitsFault : Option FileFault → Answer → Type 0
 FitsFault None a = ¬ (IsRefusal a.status)
 FitsFault (Some f) a = IsRefusalOf f a
 
--- a status with which a text is written
+-- a status whose answer is written as a text
 abbrev pub WritesText : Status → Type 0
 WritesText status.Read = ⊥
 WritesText status.Write = ⊥
 WritesText status.Memory = ⊥
 WritesText s = Unit {0}
 
--- such an answer comes, or why there is none
+-- the call results in an answer that satisfies `Is`, or in the reason why there is none
 abbrev pub Answers : (Files → Answer → Type 0) → Option Files → (faults faults' : ℕ)
     → Result Answer Stop → Type 0
 Answers Is held faults faults' result =
     Performs held (λ files o. Is files (answer_of o)) faults faults' result
 
--- an answer that may be written: that of no shape is the usage line, and no other is; a fault
--- comes with its refusal
+-- an answer to write: arguments that are no command get the usage line and no others do; a refusal
+-- comes with its fault
 pub record IsMade (Unshaped : Type 0) (usage_line a : Answer) (f : Option FileFault) : Type 0 where
   pub plain : WritesText a.status
   pub usage : a.status ≡ status.Usage → Unshaped
   pub unshaped : Unshaped → a ≡ usage_line
   pub fits : FitsFault f a
 
--- what is to be written, if anything is, is such a one
+-- the answer to write, if there is one, is of that form
 abbrev pub Makes : Type 0 → Answer → Result Answer Stop → Type 0
 Makes Unshaped usage_line (Ok a) = IsMade Unshaped usage_line a None
 Makes Unshaped usage_line (Err (stop.Told a f)) = IsMade Unshaped usage_line a (Some f)

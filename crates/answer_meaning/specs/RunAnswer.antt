@@ -28,21 +28,20 @@ ended_status Finished = status.Done
 ended_status Restarted = status.Restart
 ended_status Limited = status.Limit
 
--- how a run ends in this state, which may go on for so many jobs; of a state in which it does not
--- end nothing is asked
+-- how a run within this limit of jobs ends in this state; the value is unused where it does not end
+-- there
 abbrev pub ending_of : ℕ → State → Ending
 ending_of jobs s = unwrap_or (ending_at jobs s) Limited
 
--- the report of the single run that ends so, and the status of that ending
+-- the report of a single run that ends so, and the status of that ending
 abbrev pub ended_answer : Exchange → State → Ending → Answer
 ended_answer x s ending = record { status = ended_status ending; text = report_text x s ending }
 
--- the same of the books and words of an end
+-- the same for the books and memory words at the end
 abbrev pub ending_answer : Exchange → Ended → Answer
 ending_answer x end = ended_answer x (with_words end.books.state end.words) (told_ending end.ending)
 
--- the state in which the single run of these lines ends, which ends after so many jobs at the
--- latest
+-- the state in which the single run of these lines ends, with this limit of jobs
 abbrev pub end_of : Exchange → List Line → ℕ → State
 end_of x lines jobs = end_state x jobs (opening x (map coming_of lines))
 

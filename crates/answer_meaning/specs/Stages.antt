@@ -1,4 +1,4 @@
--- What a stage comes to over a shelf, or why it stops.
+-- The outcome of a stage that reads from a shelf, or why it stops.
 use Rattle.std.specs.Prelude.{◌≡◌, ℕ, ◌≤◌, List, Option, Result, Ok, Err, IfOk, IfErr, IfSome}
 use Rattle.std.specs.Prelude.{IsSomeAnd}
 use Rattle.plex_io.specs.Causes.{Rose}
@@ -13,7 +13,7 @@ use Rattle.answer_meaning.specs.Outcome.{Out, not_held}
 use Rattle.answer_meaning.specs.Text.{IsRefusalOf}
 use Rattle.answer_meaning.specs.declared.fault.FileFault.{FileFault}
 
--- a status of a fault of a file
+-- the status of a file's fault
 abbrev pub IsRefusal : Status → Type 0
 IsRefusal status.Source = Unit {0}
 IsRefusal status.Signals = Unit {0}
@@ -31,20 +31,20 @@ StopsBy held work before after stop.NotHeld = IsSomeAnd held (λ files. work fil
 StopsBy held work before after stop.Failed = Rose before after
 StopsBy held work before after stop.Memory = Unit {0}
 
--- a command, or a stage of it, comes to something, or it stops with a cause; the counts are those
--- of the shelf's faults
+-- a command, or a stage of it, has an outcome or stops for a reason; `before` and `after` count the
+-- shelf's faults
 pub record Performs {A : Type 0} (held : Option Files) (work : Files → Out A → Type 0)
     (before after : ℕ) (result : Result A Stop) : Type 0 where
   pub ok : IfOk result (λ a. IfSome held (λ files. work files (Ok a)))
   pub stops : IfErr result (StopsBy held work before after)
   pub later : before ≤ after
 
--- a stage comes to what it is
+-- the outcome of a stage is the one defined
 abbrev pub Comes : {A : Type 0} → Option Files → (Files → Out A) → ℕ → ℕ → Result A Stop → Type 0
 Comes held stage before after result =
     Performs held (λ files o. stage files ≡ o) before after result
 
--- an outcome comes that is such a one, or memory was refused; no file is read
+-- the outcome satisfies `Is`, or out of memory; no file is read
 abbrev pub TellsOutcome : {A : Type 0} → (Out A → Type 0) → Result A Stop → Type 0
 TellsOutcome Is (Ok a) = Is (Ok a)
 TellsOutcome Is (Err (stop.Told a f)) = IsRefusalOf f a × Is (Err a)
@@ -52,18 +52,18 @@ TellsOutcome Is (Err stop.NotHeld) = ⊥
 TellsOutcome Is (Err stop.Failed) = ⊥
 TellsOutcome Is (Err stop.Memory) = Unit {0}
 
--- the outcome is as said
+-- the outcome is this one, or out of memory
 abbrev pub ReadAs : {A : Type 0} → Out A → Result A Stop → Type 0
 ReadAs said result = TellsOutcome (λ o. said ≡ o) result
 
--- the stop that this refusal makes, with the fault of which it is one
+-- the stop for this refusal, with its fault
 abbrev pub IsStopOf : Answer → Stop → Type 0
 IsStopOf a (stop.Told b f) = IsRefusalOf f b × (a ≡ b)
 IsStopOf a stop.NotHeld = ⊥
 IsStopOf a stop.Failed = ⊥
 IsStopOf a stop.Memory = Unit {0}
 
--- the stop with this fault, this status and a line, for which there was memory or not
+-- the stop for this fault, with this status and line, or out of memory for the line
 abbrev pub IsStopWith : FileFault → Status → Result (List ℕ) Memory → Stop → Type 0
 IsStopWith f s (Ok line) t = t ≡ stop.Told (record { status = s; text = line }) f
 IsStopWith f s (Err m) t = t ≡ stop.Memory

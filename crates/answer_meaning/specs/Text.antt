@@ -1,4 +1,4 @@
--- The lines that are written in place of a report, and the answers to what is refused.
+-- The lines that are written instead of a report, and the answers to refused input.
 use Rattle.std.specs.Prelude.{◌≡◌, List, ℕ, [], ◌∷◌, ◌++◌, codes, slice_get}
 use Rattle.std.specs.Fmt.{decimal}
 use Rattle.std.specs.List.{flat_map}
@@ -36,7 +36,7 @@ use Rattle.command_words.specs.declared.status.Status.TheVariants as status
 abbrev pub LF : List ℕ
 LF = 10 ∷ []
 
--- these words, the number of a line, and the word of a rule
+-- these words, the line's number, and the rule's word
 abbrev pub rule_line : List ℕ → ℕ → List ℕ → List ℕ
 rule_line words line rule = words ++ decimal line ++ codes " " ++ rule ++ LF
 
@@ -64,21 +64,21 @@ rule_name rule.TooDeep = codes "TOODEEP"
 rule_name (rule.Numbered number) = numbered_name number
 rule_name (rule.Link r) = link_name r
 
--- a number behind a space
+-- a space, then a number
 abbrev pub spaced : ℕ → List ℕ
 spaced n = codes " " ++ decimal n
 
--- the six numbers of a shape
+-- the six numbers of an exchange's shape
 abbrev pub shape_numbers : Shape → List ℕ
 shape_numbers s = s.signals ∷ s.blocks ∷ s.points ∷ s.cells ∷ s.entries ∷ s.references ∷ []
 
--- the numbers of the exchange, then those of the certificate
+-- the exchange's numbers, then the certificate's
 abbrev pub other_exchange : Shape → Shape → List ℕ
 other_exchange x c =
     codes "CERTIFICATE WRONGEXCHANGE" ++ flat_map spaced (shape_numbers x) ++ codes " AND"
     ++ flat_map spaced (shape_numbers c) ++ LF
 
--- the line of a fact behind these words
+-- these words, then the line of a fact
 abbrev pub fact_text : List ℕ → Fact → List ℕ
 fact_text words f = words ++ fact_line f ++ LF
 
@@ -91,12 +91,12 @@ certificate_text (certificate.WrongExchange x c) = other_exchange x c
 certificate_text (certificate.Strange f) = fact_text (codes "CERTIFICATE STRANGE ") f
 certificate_text (certificate.Missing f) = fact_text (codes "CERTIFICATE MISSING ") f
 
--- the words in front of the line of a fault of an exchange text
+-- the words before the line of a fault of an exchange text
 abbrev pub source_words : Which → List ℕ
 source_words First = codes "SOURCE line "
 source_words New = codes "NEWSOURCE line "
 
--- what the first fault of a file is answered by
+-- the answer to the first fault of an exchange text
 unfoldable pub source_refusal : Which → SourceFault → Answer
 source_refusal which f = record {
   status = status.Source;
@@ -124,23 +124,21 @@ filter_refusal f = record {
   text = rule_line (codes "FILTER line ") f.line (filter_rule_name f.rule);
 }
 
--- `BLOCK.FILE`, a file by its number
+-- `BLOCK.FILE` for a file's number
 abbrev pub file_words : Exchange → ℕ → List ℕ
 file_words x n = option_map_or (λ (p : Placed). name_of_block x.blocks p.block ++ codes "."
     ++ p.file.name) (slice_get (placed_files x.blocks) n) []
 
--- `CHANGE ENTRY SIG BLOCK` or `CHANGE FILE BLOCK.FILE`, what an exchange has and another one has
--- not
+-- `CHANGE ENTRY SIG BLOCK` or `CHANGE FILE BLOCK.FILE`: what the other exchange lacks
 abbrev pub misfit_text : Exchange → Misfit → List ℕ
 misfit_text x (EntryMisfit e) = codes "CHANGE ENTRY " ++ name_of_entry x e ++ LF
 misfit_text x (FileMisfit f) = codes "CHANGE FILE " ++ file_words x f ++ LF
 
--- what the new exchange has not
+-- the refusal of a new exchange that lacks something
 abbrev pub misfit_refusal : Exchange → Misfit → Answer
 misfit_refusal old m = record { status = status.Change; text = misfit_text old m }
 
--- a fault of a file is answered by this refusal; the line of a misfit has names of the exchange of
--- which it is one
+-- the refusal of a file's fault; the line of a misfit has names of the exchange that has the part
 abbrev pub IsRefusalOf : FileFault → Answer → Type 0
 IsRefusalOf (file.Source which f) a = source_refusal which f ≡ a
 IsRefusalOf (file.Signals f) a = signals_refusal f ≡ a

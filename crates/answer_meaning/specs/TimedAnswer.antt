@@ -15,7 +15,7 @@ use Rattle.answer_meaning.specs.Outcome.{Out, goes_on, or_refused}
 use Rattle.answer_meaning.specs.Given.{exchange_at, lines_at, text_at}
 use Rattle.answer_meaning.specs.RunAnswer.{run_answer}
 
--- the lines and the signals of a table's text, as one list, or the first fault of the table; a text
+-- the lines and the table's signals as one list, or the table's first fault; the fault of a text
 -- that is too large has no line
 abbrev pub merged_of_file : Exchange → List Line → Option (List ℕ) → Out (List Line)
 merged_of_file x lines None = Err (table_refusal (breach TooLarge 0))
@@ -26,7 +26,7 @@ merged_of_file x lines (Some text) = goes_on (or_refused table_refusal
 abbrev pub merged_at : Exchange → List Line → Word → Files → Out (List Line)
 merged_at x lines name files = goes_on (text_at name files) (λ text. merged_of_file x lines text)
 
--- a run of the lines of the signal file, merged with the signals of the table
+-- the run of the signal file's lines, merged with the table's signals
 abbrev pub timed_of : TimedWords → Files → Out Answer
 timed_of w files =
     goes_on (exchange_at w.run.exchange files) (λ x.

@@ -1,4 +1,4 @@
--- `trace`: the jobs of the single run that a filter shows.
+-- `trace`: the jobs of the single run that a filter selects.
 use Rattle.std.specs.Prelude.{ℕ, List, map, Option, Some, None, Ok, Err}
 use Rattle.plex_io.specs.Files.{Files}
 use Rattle.exchange_model.specs.declared.exchange.Exchange.{Exchange}
@@ -18,7 +18,8 @@ use Rattle.answer_meaning.specs.Outcome.{Out, goes_on, headed_by, or_refused}
 use Rattle.answer_meaning.specs.Given.{exchange_at, lines_at, text_at}
 use Rattle.answer_meaning.specs.RunAnswer.{run_answer}
 
--- the lines of a filter's text, or its first fault; a text that is too large has no line
+-- the lines of a filter's text, or its first fault; the fault of a text that is too large has no
+-- line
 abbrev pub shows_of_file : Exchange → Option (List ℕ) → Out (List Show)
 shows_of_file x None = Err (filter_refusal (breach TooLarge 0))
 shows_of_file x (Some text) = or_refused filter_refusal (filter_of x text)
@@ -27,7 +28,7 @@ shows_of_file x (Some text) = or_refused filter_refusal (filter_of x text)
 abbrev pub shows_at : Exchange → Word → Files → Out (List Show)
 shows_at x name files = goes_on (text_at name files) (λ text. shows_of_file x text)
 
--- the jobs of the single run that a filter shows, and then its report
+-- the jobs of the single run that a filter selects, then the run's report
 abbrev pub trace_answer : Exchange → List Line → List Show → ℕ → Answer
 trace_answer x lines shows jobs =
     headed_by (trace_text x (trace x jobs (opening x (map coming_of lines)) shows))

@@ -1,11 +1,11 @@
-// What a program writes and ends with, and why the work for it stops.
+// The answer of a program, and why work on it stops.
 
 use crate::fault::FileFault;
 use command_words::Status;
 use plex_num::Memory;
 use text_parts::Text;
 
-/// What the program writes and ends with.
+/// The text that the program writes, and its exit status.
 pub struct Answer {
     pub status: Status,
     pub text: Text,
@@ -21,18 +21,18 @@ impl Drop for Answer {
 #[derive(Clone, Copy)]
 pub struct ProgramEnd {
     pub status: Status,
-    /// The fault whose line was written; none where no line of a fault was written whole.
+    /// The fault whose line was written; `None` where no fault's line was written in full.
     pub fault: Option<FileFault>,
 }
 
-/// Why the work stops.
+/// Why work on an answer stops.
 #[derive(Drop)]
 pub enum Stop {
-    /// With the status and the line of this fault, the first one of a file.
+    /// The first fault of a file, and the refusal that reports it.
     Told { answer: Answer, fault: FileFault },
-    /// The shelf holds no file of this name.
+    /// The shelf has no file of this name.
     NotHeld,
-    /// A file could not be read.
+    /// A read failed.
     Failed,
     Memory,
 }

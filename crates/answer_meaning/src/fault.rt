@@ -1,4 +1,4 @@
-// The first fault of a file: of an exchange text, of a certificate, and of any file.
+// The first fault of a file: of an exchange text, of a certificate, or of any file.
 
 use block_change::Misfit;
 use certificate_text::Shape;
@@ -8,62 +8,62 @@ use signal_file::SignalsFault;
 use signal_trace::FilterFault;
 use text_rules::LinkRule;
 
-/// Which exchange text of a command.
+/// Which of a command's exchange texts.
 #[derive(Clone, Copy)]
 pub enum Which {
-    /// The one with which it begins.
+    /// The one to start with.
     First,
-    /// The one that is to take the place of that.
+    /// The one that replaces it while the exchange runs.
     New,
 }
 
-/// Why an exchange text is refused, and where.
+/// The first fault of an exchange text.
 #[derive(Clone, Copy, Debug)]
 pub struct SourceFault {
-    /// The line of the fault, from 1; 0 where the fault has none.
+    /// The line of the fault, from 1; 0 where it has none.
     pub line: u32,
     pub rule: Rule,
 }
 
-/// The rules whose first breach is told (docs/FORMATS.md, Refusals).
+/// The rules, of which the first one broken is reported (docs/FORMATS.md, Refusals).
 #[derive(Clone, Copy, Debug)]
 pub enum Rule {
     /// The text has more than 16,777,216 bytes.
     TooLarge,
-    /// A byte begins no token.
+    /// A byte starts no token.
     BadByte,
-    /// A number has over 10 digits, or is not below 2^32.
+    /// A number has more than 10 digits, or is not below 2^32.
     BadNumber,
-    /// A word has over 31 bytes.
+    /// A word has more than 31 bytes.
     LongName,
-    /// A token may not stand there.
+    /// A token is not allowed there.
     Unexpected,
     /// The text ends too soon.
     Ended,
-    /// A token would be allowed if brackets and statements could nest deeper.
+    /// A token that only deeper nesting of brackets or statements would allow.
     TooDeep,
-    /// A rule of signals and blocks, by its number from 1 to 17 (docs/LANGUAGE.md, Rules).
+    /// A rule of signals or blocks, by its number from 1 to 17 (docs/LANGUAGE.md, Rules).
     Numbered(u8),
     /// A rule of links, or a limit (docs/LANGUAGE.md, Rules).
     Link(LinkRule),
 }
 
-/// Why a certificate is refused, by the first of these that is so.
+/// Why a certificate is refused: the first of these that applies.
 #[derive(Clone, Copy)]
 pub enum CertificateFault {
     /// The text has more than 16,777,216 bytes.
     TooLarge,
-    /// The line, from 1, is not as those of a certificate are, or the text ends before it.
+    /// This line, from 1, is not well-formed, or the text ends before it.
     BadText { line: u32 },
-    /// The exchange has another shape than the certificate tells.
+    /// The certificate states another shape than the exchange has.
     WrongExchange { exchange: Shape, certificate: Shape },
-    /// The first fact that the exchange cannot have.
+    /// The first fact that is not one of the exchange.
     Strange { fact: Fact },
-    /// The least fact that follows from the certificate's by one rule and is not among them.
+    /// The least fact that a rule derives from the certificate's and that is not in it.
     Missing { fact: Fact },
 }
 
-/// The first fault of the files of a command, by which its answer is a refusal.
+/// The first fault of a command's files, which the answer reports.
 #[derive(Clone, Copy)]
 pub enum FileFault {
     /// A fault of an exchange text.
@@ -76,6 +76,6 @@ pub enum FileFault {
     Table(TableFault),
     /// A fault of the filter.
     Filter(FilterFault),
-    /// What the exchange has not that is to take the place of the first one.
+    /// The new exchange of a `change` lacks this, which the first one has.
     Change(Misfit),
 }

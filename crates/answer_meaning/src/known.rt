@@ -1,11 +1,11 @@
-// An exchange that is known by its names.
+// An exchange with its directory of names.
 ghost use Rattle.signal_file.specs.Rules.{IsDirectory};
 
 use exchange_model::Exchange;
 use signal_file::Directory;
 
-/// An exchange, and what it has by its names. A command makes it once, of its first file, and reads
-/// each further file that names signals and blocks by that.
+/// An exchange, and the directory by which names are looked up. A command builds it once, from its
+/// first file, and uses it for each further file that names signals and blocks.
 #[derive(Drop)]
 pub struct KnownExchange {
     pub exchange: Exchange,

@@ -1,10 +1,9 @@
-// What each command answers, as definitions.
+// Defines what each command answers.
 //
-// What goes in: words of a command, and what files hold. What comes out: the one status and text
-// that answer them, said of the definitions of the crates below; and the few types that the answers
-// are made of: an answer, why the work for it stops, how a program ended, the first fault of a
-// file, an exchange that is known by its names. It runs nothing, and reads no file: the crates that
-// make the answers stand on it, one beside the other.
+// In: a command's arguments, and the contents of the files. Out: the one status and text that
+// answer them, in terms of the definitions of the crates below; and the few types that answers are
+// made of (`Answer`, `Stop`, `ProgramEnd`, the first fault of a file, `KnownExchange`). Nothing is
+// run or read here: the crates that produce the answers build on this one.
 #![tactic(auto)]
 
 mod answer;
