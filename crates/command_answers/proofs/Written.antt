@@ -1,4 +1,4 @@
--- The text that lines are written to, read again.
+-- Round trip: lines written as a text are read back unchanged.
 use Rattle.std.proofs.Common.{◌≡◌, ℕ, ◌≤◌, ◌<◌, ◌^◌, List, length, Ok, ap, sym, subst, ◌∙◌, arith}
 use Rattle.std.proofs.Common.{[], map, Option, Some, None}
 use Rattle.plex_limits.specs.declared.limits.TheConstants.{MOST_BYTES}
@@ -32,7 +32,7 @@ use Rattle.answer_meaning.specs.declared.fault.Which.TheVariants.{First}
 use Rattle.answer_meaning.proofs.Accepted.{IsAccepted, accepted, gone_on, read, text_small}
 use Rattle.known_exchange.proofs.Tables.{length-merged, table_fits}
 
--- ## The run of the signal file to which the merged lines are written out is the same
+-- ## Running the merged lines as a signal file gives the same run
 
 -- the text of a signal file has these lines
 record HasLines (x : Exchange) (lines : List Line) : Type 0 where
@@ -68,7 +68,7 @@ has_table x lines name files all e = let a = gone_on (text_at name files) (merge
           merge = same_Some (merged lines p.0) all (ap result_ok p.2);
         }
 
--- what is written out is read again
+-- the text written for the lines is read back as these lines
 read_again : (x : Exchange) (lines all : List Line) → IsAccepted x → HasLines x lines → HasTable x lines all → signal_lines x (written_out x all) ≡ Ok all
 read_again x lines all a l t =
     let sorted = by_count (all_lines lines t.periods) in
@@ -80,7 +80,7 @@ read_again x lines all a l t =
     (written_read x (merged lines t.periods) a.kept a.words (merged_fit x l.text t.text lines t.periods l.are t.are)
     (numbered_are (number_in sorted) 1 sorted) (merged_small x l.text t.text lines t.periods l.are t.are) fewer)
 
--- the lines of a file that has the text of these
+-- the lines of a file with that text
 lines_again : (x : Exchange) (name : Word) (others : Files) (all : List Line) → others name ≡ Some (written_out x all)
     → length (written_out x all) ≤ MOST_BYTES → signal_lines x (written_out x all) ≡ Ok all
     → lines_at x name others ≡ Ok all

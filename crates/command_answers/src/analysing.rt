@@ -1,4 +1,4 @@
-// What the analysis of an exchange says, and its certificate.
+// Answers `analyse` and `certify`.
 ghost use Rattle.std.specs.Prelude.{IfOk};
 ghost use Rattle.answer_meaning.specs.ExchangeAnswer.{AnswersAnalysis, AnswersCertificate};
 ghost use Rattle.answer_meaning.specs.ExchangeAnswer.{FromExchange};
@@ -16,8 +16,8 @@ use plex_io::{Shelf, Word};
 use plex_num::Memory;
 use std::alloc::Global;
 
-/// `analyse`. It stops where the file cannot be read or its text has a fault, and where memory is
-/// refused.
+/// Performs `analyse`. Stops where the file is missing or cannot be read, at the first fault of its
+/// text, or out of memory.
 #[tactic(auto, using(answer_meaning::proofs::Stages::performs_rules))]
 pub fn perform_analysis<S: Shelf>(alloc: Global, shelf: &mut S, name: &Word) -> Result<Answer, Stop>
     ensures comes { Performs (S.held shelf.old) (FromExchange name.now AnswersAnalysis)
@@ -29,7 +29,7 @@ pub fn perform_analysis<S: Shelf>(alloc: Global, shelf: &mut S, name: &Word) -> 
     Ok(answer)
 }
 
-/// `certify`. It stops as `analyse` does.
+/// Performs `certify`. Stops as `analyse` does.
 #[tactic(auto, using(answer_meaning::proofs::Stages::performs_rules))]
 pub fn perform_certificate<S: Shelf>(
     alloc: Global,

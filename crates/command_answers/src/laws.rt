@@ -1,4 +1,4 @@
-// What holds of the answers to all words, said by clauses.
+// Theorems about the answers to all commands, stated as contracts.
 ghost use Rattle.std.specs.Prelude.{◌≡◌, ◌≤◌, ◌<◌, ◌^◌, ℕ, List, [], Some, Ok, length, map};
 ghost use Rattle.std.specs.List.{AllByRecursion};
 ghost use Rattle.plex_limits.specs.declared.limits.TheConstants.{MOST_BYTES};
@@ -16,8 +16,8 @@ ghost use Rattle.answer_meaning.specs.TimedAnswer.{merged_at, timed_of};
 ghost use Rattle.command_words.specs.Words.{Word};
 ghost use Rattle.command_words.specs.declared.command.TimedWords.{TimedWords};
 
-/// Where `timed` makes a run, `run` makes the same one of the signal file to which the merged lines
-/// are written out, if that is not too large for a file.
+/// Where `timed` makes a run, `run` makes the same run from a signal file of the merged lines, if
+/// that file is within the size limit.
 pub fn timed_runs_are_runs()
     ensures { (w : TimedWords) (files others : Files) (name : Word) (x : Exchange)
         (lines all : List Line)
@@ -30,9 +30,9 @@ pub fn timed_runs_are_runs()
         → run_of (record w.run { signals = name }) others ≡ timed_of w files }
 {}
 
-/// What is written out is read again, in the exchange of every text: lines that fit it, that are
-/// numbered from 1 and fewer than 2^32, and whose counts are below 2^32, are the signal lines of
-/// the text that they are written to. So are the merged lines of a signal file and a table.
+/// Lines written as a text are read back unchanged, for the exchange of every text: they fit it,
+/// are numbered from 1, are fewer than 2^32, and have counts below 2^32. The merged lines of a
+/// signal file and a table are such lines.
 pub fn written_lines_of_texts_are_read()
     ensures lines { (name : Word) (files : Files) (x : Exchange) (lines : List Line)
         → exchange_at name files ≡ Ok x

@@ -1,7 +1,7 @@
-// The answers that take no run.
+// The answers that need no run.
 //
-// What goes in: a shelf of files and their names. What comes out: the analysis and the certificate
-// of an exchange; the usage line; an answer in a sink. It runs nothing, and knows no thread.
+// In: a shelf of files and their names. Out: the analysis and the certificate of an exchange; the
+// usage line; an answer written to a sink. Nothing is run here, and no thread is started.
 #![tactic(auto)]
 
 mod analysing;

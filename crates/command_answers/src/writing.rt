@@ -1,4 +1,4 @@
-// An answer in a sink.
+// Writes an answer to a sink.
 ghost use Rattle.std.specs.Prelude.{◌≡◌, ◌⊎◌};
 ghost use Rattle.answer_meaning.specs.Program.{FitsFault, ProcessEnds, TellsFault, WritesText};
 ghost use Rattle.answer_meaning.specs.Program.{WriteCause};
@@ -8,8 +8,8 @@ use command_words::Status;
 use plex_io::Sink;
 use text_parts::write_text;
 
-/// Writes the answer, and gives back its status and the fault of which it is the refusal, or
-/// `Write` and no fault where a write failed.
+/// Writes the answer. Returns its status, and the fault if it is a refusal; or `Write` and no fault
+/// where a write failed.
 #[tactic(auto, using(answer_meaning::proofs::Endings::fault_written))]
 pub fn write_answer<K: Sink>(sink: &mut K, answer: &Answer, fault: Option<FileFault>) -> ProgramEnd
     requires writes { WritesText answer.now.status }
