@@ -1,4 +1,4 @@
--- A run that goes on with another exchange.
+-- A run that continues with another exchange.
 use Rattle.std.proofs.Common.{◌≡◌, ℕ, zero, suc, ◌<◌, ◌≤◌, Bool, true, false, Some, None, refl, sym}
 use Rattle.std.proofs.Common.{ap, ◌∙◌, subst, arith, if◌then◌else◌, not, ◌&&◌, List, ◌++◌, map}
 use Rattle.std.proofs.Common.{Option, Result, Ok, Err}
@@ -45,9 +45,9 @@ use Rattle.answer_meaning.specs.declared.answer.Answer.{Answer}
 use Rattle.answer_meaning.specs.declared.answer.Stop.{Stop}
 use Rattle.run_answers.proofs.Telling.{answer_is}
 
--- ## A run that ends after fewer jobs at the latest, beside the same run with a higher limit
+-- ## A run with a limit of jobs, compared with the same run and a higher limit
 
--- a state that goes on under a limit goes on under a higher one
+-- a state that does not end the run under a limit does not end it under a higher one
 higher : (low high : ℕ) (s : State) → low ≤ high → ending_at low s ≡ None → ending_at high s ≡ None
 higher low high s le goes =
     let g = goes_on low s goes in
@@ -55,7 +55,7 @@ higher low high s le goes =
     let under : nat_le high s.ended ≡ false = grind (arith, nat_tests, few, le) in
     rw (g.runs, g.waits, under) refl
 
--- an ending of another kind than that by the limit
+-- an ending for another reason than the limit
 abbrev pub IsOwn : Ending → Type 0
 IsOwn Restarted = Unit {0}
 IsOwn Finished = Unit {0}
@@ -76,7 +76,7 @@ own_ending low high s e own is = by (has_stopped s) (is_quiet s.waiting) is
     by false true is = is
     by false false is = absurd (at_limit (nat_le low s.ended) e own is)
 
--- an ending by the limit comes after so many jobs
+-- an ending by the limit comes only when that many jobs have ended
 limit_reached : (limit : ℕ) (s : State) → ending_at limit s ≡ Some Limited → limit ≤ s.ended
 limit_reached limit s is = by (has_stopped s) (is_quiet s.waiting) (nat_le limit s.ended) refl is
   where
@@ -88,7 +88,7 @@ limit_reached limit s is = by (has_stopped s) (is_quiet s.waiting) (nat_le limit
     by false false true t is = grind (arith, nat_tests, t)
     by false false false t is = cc
 
--- the last restart has come, or has not
+-- whether the run stopped after its last restart
 pub stopped_so : (limit : ℕ) (s : State) → ending_at limit s ≡ Some Restarted → has_stopped s ≡ true
 stopped_so limit s is = by (has_stopped s) (is_quiet s.waiting) (nat_le limit s.ended) is
   where
@@ -113,7 +113,7 @@ goes_so limit s e other is = by (has_stopped s) is
     by false is = refl
 
 module _ (x : Exchange) (first : State) (none : first.ended ≡ 0) where
-  -- there are at most as many as the limit says
+  -- the run has at most as many jobs as the limit
   pub few_jobs : (limit : ℕ) → jobs_at_end x limit first ≤ limit
   few_jobs limit = by (jobs_at_end x limit first) refl
     where
@@ -136,19 +136,19 @@ module _ (x : Exchange) (first : State) (none : first.ended ≡ 0) where
     pub same_ending : (e : Ending) → IsOwn e → ending_at low (end_state x low first) ≡ Some e → ending_at high (end_state x high first) ≡ Some e
     same_ending e own is = ap (λ n. ending_at high (after x first n)) (same_end e own is) ∙ own_ending low high (end_state x low first) e own is
 
--- an ending before so many jobs is none by the limit
+-- a run with fewer jobs than the limit did not end by it
 pub own_before : (limit : ℕ) (s : State) (e : Ending) → ending_at limit s ≡ Some e → s.ended < limit → IsOwn e
 own_before limit s Restarted is less = tt
 own_before limit s Finished is less = tt
 own_before limit s Limited is less = (let le = limit_reached limit s is in omega (arith, le, less))
 
--- so many are few, where no more may run than so many
+-- a change is at no later job than the limit, so its number is within the bounds too
 pub at_few : (at jobs most : ℕ) → at ≤ jobs → jobs ≤ most → at ≤ most
 at_few at jobs most le few = omega (arith, le, few)
 
 -- ## The change
 
--- whether it fits
+-- whether the new exchange fits
 
 pub answers_misfit : (x y : Exchange) (lines : List Line) (jobs at : ℕ) (found : Option Misfit) (m : Misfit) (s : Stop)
     → found ≡ misfit x y → found ≡ Some m → IsStopOf (misfit_refusal x m) s
@@ -162,13 +162,13 @@ pub answers_fit : (x y : Exchange) (lines : List Line) (jobs at : ℕ) (found : 
     → TellsOutcome (AnswersChange x y lines jobs at (misfit x y)) (Ok a)
 answers_fit x y lines jobs at found a same is told = subst (λ o. AnswersChange x y lines jobs at o (Ok a)) (sym is ∙ same) told
 
--- no change
+-- without a change
 
 tested : (x y : Exchange) (lines : List Line) (jobs at : ℕ) (b : Bool) (a : Answer) → is_changed x lines jobs at ≡ b
     → ChangesOrNot x y lines jobs at b a → ChangesOrNot x y lines jobs at (is_changed x lines jobs at) a
 tested x y lines jobs at b a is told = subst (λ c. ChangesOrNot x y lines jobs at c a) (sym is) told
 
--- the run may not have so many jobs
+-- the limit is below the job of the change
 pub never_reached : (x y : Exchange) (lines : List Line) (jobs at : ℕ) (r : Result Answer Memory) → jobs < at
     → IfOk r (λ a. a ≡ run_answer x lines jobs) → IfOk r (ChangesOrNot x y lines jobs at (is_changed x lines jobs at))
 never_reached x y lines jobs at (Err m) less told = tt
@@ -176,7 +176,7 @@ never_reached x y lines jobs at (Ok a) less told =
     let over : nat_le at jobs ≡ false = grind (arith, nat_tests, less) in
     tested x y lines jobs at false a (ap (λ b. b && (nat_le at (end_of x lines at).ended && not (has_stopped (end_of x lines at)))) over) told
 
--- no fewer is not less
+-- not fewer is the negation of fewer
 no_fewer : (n m : ℕ) → (nat_le m n && true) ≡ not (nat_lt n m)
 no_fewer n m = by (nat_le m n) refl
   where
@@ -197,7 +197,7 @@ module _ (x y : Exchange) (lines : List Line) (jobs at : ℕ) (le : at ≤ jobs)
   ended_is : last.ended ≡ end.books.state.ended
   ended_is = sym (ap (λ (s : State). s.ended) over.runs.state)
 
-  -- it has so many jobs and did not stop with the last of them, or it ended before
+  -- the run has that many jobs and did not stop with the last of them, or it ended before
   goes : (nat_le at last.ended && not (has_stopped last)) ≡ not (ends_before e end.books.state.ended at)
   goes = by e over.runs.ends
     where
@@ -218,7 +218,7 @@ module _ (x y : Exchange) (lines : List Line) (jobs at : ℕ) (le : at ≤ jobs)
       let may : nat_le at jobs ≡ true = grind (arith, nat_tests, le) in
       ap (λ c. c && (nat_le at last.ended && not (has_stopped last))) may ∙ goes ∙ ap not is
 
-  -- it ends by itself
+  -- the run ends by itself
   own_so : ends_before e end.books.state.ended at ≡ true → IsOwn e
   own_so before = by e over.runs.ends before
     where
@@ -227,7 +227,7 @@ module _ (x y : Exchange) (lines : List Line) (jobs at : ℕ) (le : at ≤ jobs)
       by Finished is before = tt
       by Limited is before = own_before at last Limited is (let same = ended_is in grind (arith, nat_tests, before, same))
 
-  -- the report of the end is that of the run
+  -- the report of that end is the report of the run
   run_there : (a : Answer) → IsOwn e → a ≡ ending_answer x end → a ≡ run_answer x lines jobs
   run_there a own told =
       answer_is x lines jobs end a (record {
@@ -267,7 +267,7 @@ module _ (x y : Exchange) (lines : List Line) (jobs at : ℕ) (le : at ≤ jobs)
     is_changed_so (Err m) on told = tt
     is_changed_so (Ok a) on told = tested x y lines jobs at true a (tests_are on) (subst (λ t. IsChanged x y t jobs at a) parts_state told)
 
--- the answer of a change
+-- the answer with a change
 pub changes : (x y : Exchange) (before : State) (jobs at : ℕ) (run : Standing) (end : Ended) (front : List ℕ) (a : Answer) → CarriesOn x y before jobs run
     → IsEndOf y (state_of run) run.books.limit end → front ≡ text_of (event_lines x before.events) ++ change_text at
     → a ≡ headed_by front (ending_answer y end) → IsChanged x y before jobs at a

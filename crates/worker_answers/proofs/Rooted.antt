@@ -1,5 +1,5 @@
--- A store that holds the words of a run and has lent nothing: jobs may start on it, and what they
--- come to is that of the single run.
+-- A store with a run's memory words, none of them lent. The dispatcher may start jobs on it, and
+-- its result is that of the single run.
 use Rattle.std.proofs.Common.{◌≡◌, ℕ, ◌<◌, ◌≤◌, Bool, List, sym, ap, ◌∙◌, subst}
 use Rattle.plex_limits.specs.declared.limits.TheConstants.{MOST_JOBS}
 use Rattle.machine_code.specs.Coded.{Code}
@@ -25,11 +25,11 @@ use Rattle.parallel_dispatch.specs.declared.dispatcher.Ended.{Ended as End}
 use Rattle.parallel_dispatch.specs.declared.dispatcher.Rested.{Rested}
 use Rattle.parallel_dispatch.specs.Ends.{IsRunEnd, IsRunRest, IsRunTo, MayStart}
 
--- its values are the words that it was made of
+-- the store's values are the words that it was made from
 values_are : (root : RootView) (store : StoreId) (words : List ℕ) → root ≡ (store, unlent words) → root.1.values ≡ words
 values_are root store words is = ap (λ (r : RootView). r.1.values) is
 
--- it has lent nothing
+-- nothing is lent
 pub root_unlent : (root : RootView) (store : StoreId) (words : List ℕ) → root ≡ (store, unlent words) → root ≡ (store, unlent root.1.values)
 root_unlent root store words is = is ∙ ap (λ v. (store, unlent v)) (sym (values_are root store words is))
 
@@ -47,7 +47,7 @@ root_starts x b root store words is may limit may_rest = record {
   valid = root_valid x b.state root store words is may.valid;
 }
 
--- what the dispatcher comes to that goes on with its values
+-- the result of the dispatcher that starts from these values
 pub root_comes : (x : Exchange) (code : Code) (k : KeptSummaries) (workers : ℕ) (b : Account) (root : RootView)
     (store : StoreId) (words : List ℕ) (come : Dispatched) → root ≡ (store, unlent words)
     → IsRunTo x code k workers (with_words b.state root.1.values) b.limit come
@@ -59,19 +59,19 @@ pub ruleset root_rules = (root_starts, root_comes)
 
 module _ (x : Exchange) (code : Code) (k : KeptSummaries) (workers : ℕ) (first : State) (limit : ℕ) (come : Dispatched)
     (to : IsRunTo x code k workers first limit come) where
-  -- the end to which the dispatcher comes is that of the single run
+  -- the end that the dispatcher reaches is that of the single run
   pub end_comes : (end : End) → come ≡ Over end → IsEndOf x first limit (record { books = end.books; words = end.words; ending = end.ending })
   end_comes end is =
       let over : IsRunEnd x code k workers first limit end = subst (IsRunTo x code k workers first limit) is to in
       record { runs = record { state = over.ends.state; ends = over.ends.ends }; nobody = over.nobody }
 
-  -- a run that rests stands on its way
+  -- a run that the dispatcher hands back is in an intermediate state of the single run
   pub rest_comes : (run : Rested) → come ≡ Rests run → IsOnTheWay x first limit run.there
   rest_comes run is =
       let rest : IsRunRest x code k workers first limit run = subst (IsRunTo x code k workers first limit) is to in
       rest.way
 
--- the dispatcher goes on with a run on its way
+-- the dispatcher continues a run from an intermediate state
 
 pub way_ended : (x : Exchange) (code : Code) (k : KeptSummaries) (workers : ℕ) (first : State) (limit : ℕ)
     (run : Standing) (come : Dispatched) → IsOnTheWay x first limit run
@@ -86,7 +86,7 @@ pub way_rested : (x : Exchange) (code : Code) (k : KeptSummaries) (workers : ℕ
     → IsOnTheWay x first limit rested.there
 way_rested x code k workers first limit run come way to rested is = way_more way (rest_comes x code k workers (state_of run) run.books.limit come to rested is)
 
--- what a run is of, by its parts
+-- the context of a run, from its parts
 pub is_context : (c : RunContext) → IsLayout c.exchange.now.blocks c.layout.now → Faithful c.exchange.now c.code.now
     → IsChecked c.exchange.now c.checked.now → 0 < c.workers → IsContext c
 is_context c laid faithful checked some = record { laid = laid; faithful = faithful; checked = checked; some = some }

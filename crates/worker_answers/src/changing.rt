@@ -1,4 +1,4 @@
-// A run that goes on with another exchange after some jobs.
+// A run that continues with another exchange after some jobs.
 ghost use Rattle.std.specs.Prelude.{◌≡◌, ◌≤◌, IfOk, None};
 ghost use Rattle.store_layout.specs.Laid.{IsLayout};
 ghost use Rattle.block_change.specs.Carried.{AreStanding, state_with};
@@ -30,7 +30,7 @@ use std::sync::Wait;
 use std::thread::Threads;
 use store_layout::{Layout, layout_of};
 
-/// `change`.
+/// Performs `change`.
 #[tactic(auto, using(answer_meaning::proofs::Stages::performs_rules))]
 pub fn perform_change<R: Threads + Wait + Sync, S: Shelf, G: Gate + Sync>(
     host: &Host<'_, R, G>,
@@ -48,9 +48,8 @@ pub fn perform_change<R: Threads + Wait + Sync, S: Shelf, G: Gate + Sync>(
     answer_between(host, &old.exchange, &new, words.at, lines, words.run.bounds)
 }
 
-/// The answer of a change from one exchange to another after so many jobs. It stops where the new
-/// one does not fit, and where memory is refused. What the new one has by its names is found here,
-/// once.
+/// The answer to a change from one exchange to another after job `at`. Stops where the new exchange
+/// does not fit, or out of memory. The directory of the new exchange's names is built once, here.
 #[tactic(auto, using(answer_meaning::proofs::Stages::told_memory))]
 fn answer_between<R: Threads + Wait + Sync, G: Gate + Sync>(
     host: &Host<'_, R, G>,
@@ -74,8 +73,8 @@ fn answer_between<R: Threads + Wait + Sync, G: Gate + Sync>(
     change_answer(host, &change, lines, bounds)
 }
 
-/// The answer of a change: the stop with what the new exchange has not, or else the answer of the
-/// run.
+/// The answer to a change: the refusal that names what the new exchange lacks, or else the answer
+/// of the run.
 #[tactic(auto, using(crate::proofs::Changed::change_rules))]
 fn change_answer<R: Threads + Wait + Sync, G: Gate + Sync>(
     host: &Host<'_, R, G>,
@@ -98,8 +97,8 @@ fn change_answer<R: Threads + Wait + Sync, G: Gate + Sync>(
     }
 }
 
-/// The answer of the run with an exchange that fits, which goes on there where it may have so many
-/// jobs.
+/// The answer of the run where the new exchange fits. The change takes place only if the limit of
+/// jobs allows it.
 #[tactic(auto, using(crate::proofs::Changed::never_reached))]
 fn fitting_answer<R: Threads + Wait + Sync, G: Gate + Sync>(
     host: &Host<'_, R, G>,
@@ -121,8 +120,8 @@ fn fitting_answer<R: Threads + Wait + Sync, G: Gate + Sync>(
     reached_answer(host, change, lines, bounds)
 }
 
-/// The answer of the run that may have so many jobs: it goes on with the other exchange after them
-/// where it has them, and has not stopped with the last of them.
+/// The answer of a run whose limit allows the change: it continues with the new exchange after job
+/// `at`, unless it ended before or stopped with that job.
 #[tactic(auto, using(crate::proofs::Changed::reached_rules))]
 fn reached_answer<R: Threads + Wait + Sync, G: Gate + Sync>(
     host: &Host<'_, R, G>,
@@ -151,7 +150,8 @@ fn reached_answer<R: Threads + Wait + Sync, G: Gate + Sync>(
     changed_answer(host, change, &layout, parts, &end.words, bounds)
 }
 
-/// The events up to the change, the change, and the report of what follows on the new exchange.
+/// The answer of a run with the change: the events before it, the change itself, and the report of
+/// the run on the new exchange.
 #[tactic(auto, using(run_answers::proofs::Carrying::carries_few))]
 fn changed_answer<R: Threads + Wait + Sync, G: Gate + Sync>(
     host: &Host<'_, R, G>,

@@ -1,5 +1,5 @@
-// The single run that goes on with books and words, which need not be those before the first line:
-// one job after the other, or several at once.
+// Continues the single run from given books and memory words, which need not be those before the
+// first line: sequentially, or with jobs in parallel.
 ghost use Rattle.std.specs.Prelude.{◌≡◌, ◌≤◌, false, IfOk, IfSome};
 ghost use Rattle.plex_limits.specs.declared.limits.TheConstants.{MOST_JOBS};
 ghost use Rattle.store_layout.specs.Laid.{IsLayout};
@@ -28,19 +28,20 @@ use std::sync::Wait;
 use std::thread::Threads;
 use store_layout::Layout;
 
-/// By what the jobs of a run are.
+/// How the jobs of a run are executed.
 #[derive(Clone, Copy)]
 pub enum Way {
-    /// By the source itself, one after the other.
+    /// By the source interpreter, sequentially.
     Source,
-    /// By compiled code, where that is short.
+    /// By compiled code, unless that would be too long; then by the source interpreter.
     Code,
 }
 
-/// What the single run comes to that goes on with these books and words, in this way. Jobs run one
-/// after the other where one may run at a time, and by the source itself where the code would be
-/// long. Several run at once as far as the certificate that is given lets them, or, where none is
-/// given, the exchange's own, once jobs are long.
+/// Continues the single run from these books and words to its end.
+///
+/// Jobs run sequentially with one worker, and where the code would be too long to compile.
+/// Otherwise they run in parallel as far as the given certificate permits, or, if none is given,
+/// the exchange's own, which is made once jobs are long enough. The only error is out of memory.
 #[tactic(auto, using(run_certificates::proofs::Growth::grown_rules))]
 pub fn go_on<R: Threads + Wait + Sync, G: Gate + Sync>(
     host: &Host<'_, R, G>,
@@ -95,9 +96,9 @@ pub fn go_on<R: Threads + Wait + Sync, G: Gate + Sync>(
     }
 }
 
-/// The same with several jobs at once, as far as what is kept of a certificate lets them. While
-/// hardly any job has company they run one after the other, for so long that leaving the dispatcher
-/// and coming back costs little beside.
+/// The same with jobs in parallel, as far as the kept summaries of a certificate permit. While
+/// hardly any job has others running beside it, jobs run sequentially for a while, long enough that
+/// leaving and re-entering the dispatcher costs little in comparison.
 fn run_at_once<R: Threads + Wait + Sync, G: Gate + Sync>(
     host: &Host<'_, R, G>,
     context: &RunContext<'_>,
@@ -129,8 +130,8 @@ fn run_at_once<R: Threads + Wait + Sync, G: Gate + Sync>(
     }
 }
 
-/// One job after the other, to the end of the run or until its jobs are long and have made so many
-/// instructions.
+/// Runs jobs sequentially, to the end of the run or until its jobs are long and have executed
+/// `apart` instructions.
 fn run_apart<R, G: Gate>(
     host: &Host<'_, R, G>,
     context: &RunContext<'_>,
@@ -154,8 +155,8 @@ fn run_apart<R, G: Gate>(
     )
 }
 
-/// What the dispatcher comes to with these books and words. Where memory is refused meanwhile, each
-/// job has come to its end and given back its words.
+/// Runs the dispatcher from these books and words. When it is out of memory, it first lets each
+/// running job end and return its words.
 #[tactic(auto, using(crate::proofs::Rooted::root_rules))]
 fn by_dispatcher<R: Threads + Wait + Sync, G: Gate + Sync>(
     host: &Host<'_, R, G>,
@@ -183,7 +184,7 @@ fn by_dispatcher<R: Threads + Wait + Sync, G: Gate + Sync>(
     }
 }
 
-/// The end to which the dispatcher came.
+/// Converts the end that the dispatcher reached.
 fn ended(end: parallel_dispatch::Ended) -> Ended
     ensures { result ≡ record { books = end.books; words = end.words; ending = end.ending } }
 {
@@ -194,7 +195,7 @@ fn ended(end: parallel_dispatch::Ended) -> Ended
     }
 }
 
-/// Whether jobs are run by compiled code in this way. Memory is the only reason for an error.
+/// Whether jobs are executed by compiled code. The only error is out of memory.
 fn may_compile(alloc: Global, exchange: &Exchange, way: Way) -> Result<bool, Memory> {
     match way {
         Way::Source => Ok(false),

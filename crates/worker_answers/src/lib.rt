@@ -1,9 +1,9 @@
-// The answers of the commands whose jobs may run at once.
+// The answers of the commands whose jobs may run in parallel.
 //
-// What goes in: a host with threads, memory and a gate, a shelf of files, and the words of a
-// command. What comes out: the answer of `run`, with a certificate or without, of `single`, `load`,
-// `timed` and `change`, which is that of the single run however many workers there are; or the stop
-// at the first fault of a file. It makes no choice by the command, and writes nothing.
+// In: a host with threads, memory and a gate; a shelf of files; and a command's arguments. Out: the
+// answer of `run`, with or without a certificate, of `single`, `load`, `timed` and `change`, which
+// for every number of workers is that of the single run; or the stop at the first fault of a file.
+// The crate does not choose the command, and does not write the answer.
 #![tactic(auto)]
 
 mod changing;

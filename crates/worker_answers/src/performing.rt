@@ -1,4 +1,4 @@
-// The work of `single`, `run` and `load`, up to its answer.
+// Performs `single`, `run` and `load`, up to the answer.
 ghost use Rattle.std.specs.Prelude.{◌≡◌, ◌≤◌, IfOk, IfSome, length};
 ghost use Rattle.plex_limits.specs.declared.limits.TheConstants.{MOST_BYTES};
 ghost use Rattle.answer_meaning.specs.Program.{IsEnding};
@@ -26,7 +26,7 @@ use signal_file::Line;
 use std::sync::Wait;
 use std::thread::Threads;
 
-/// `single`, and `run` without a certificate.
+/// Performs `single`, or `run` without a certificate.
 #[tactic(auto, using(answer_meaning::proofs::Stages::comes_rules))]
 pub fn perform_run<R: Threads + Wait + Sync, S: Shelf, G: Gate + Sync>(
     host: &Host<'_, R, G>,
@@ -45,7 +45,7 @@ pub fn perform_run<R: Threads + Wait + Sync, S: Shelf, G: Gate + Sync>(
     Ok(answer)
 }
 
-/// `run` with a certificate.
+/// Performs `run` with a certificate.
 #[tactic(auto, using(answer_meaning::proofs::Stages::performs_rules))]
 pub fn perform_certified<R: Threads + Wait + Sync, S: Shelf, G: Gate + Sync>(
     host: &Host<'_, R, G>,
@@ -64,7 +64,7 @@ pub fn perform_certified<R: Threads + Wait + Sync, S: Shelf, G: Gate + Sync>(
     certified_answer(host, &known.exchange, &text, lines, words.bounds)
 }
 
-/// The answer of a run whose certificate has this text, which may be too large.
+/// The answer of a run with a certificate of this text, which may be too large.
 #[tactic(auto, using(answer_meaning::proofs::Stages::certified_rules))]
 fn certified_answer<R: Threads + Wait + Sync, G: Gate + Sync>(
     host: &Host<'_, R, G>,
@@ -90,7 +90,7 @@ fn certified_answer<R: Threads + Wait + Sync, G: Gate + Sync>(
     }
 }
 
-/// `load`.
+/// Performs `load`.
 #[tactic(auto, using(answer_meaning::proofs::Stages::reads_rules))]
 pub fn perform_load<R: Threads + Wait + Sync, G: Gate + Sync>(
     host: &Host<'_, R, G>,

@@ -1,4 +1,4 @@
-// The answers of runs in which several jobs may run at once.
+// The answers of runs whose jobs may run in parallel.
 ghost use Rattle.std.specs.Prelude.{◌≡◌, IfOk, IfSome};
 ghost use Rattle.checked.specs.Kept.{IsChecked};
 ghost use Rattle.answer_meaning.specs.RunAnswer.{run_answer};
@@ -22,10 +22,10 @@ use std::sync::Wait;
 use std::thread::Threads;
 use store_layout::layout_of;
 
-/// The answer of the single run of these lines within these bounds, in this way, as far as what is
-/// kept of a certificate lets jobs run at once, or the exchange's own, where none is given. Where
-/// that would have so many facts that it takes long to make, and with one worker, one job runs
-/// after the other.
+/// The answer of the single run of these lines, within these bounds. Jobs run in parallel as far as
+/// the given certificate permits, or, if none is given, the exchange's own. They run sequentially
+/// with one worker, and where the exchange's own certificate would have so many facts that it takes
+/// long to make.
 #[tactic(auto, using(run_answers::proofs::Opened::limit_few))]
 pub fn run_answer<R: Threads + Wait + Sync, G: Gate + Sync>(
     host: &Host<'_, R, G>,
@@ -49,8 +49,8 @@ pub fn run_answer<R: Threads + Wait + Sync, G: Gate + Sync>(
     Ok(answer)
 }
 
-/// The answer of the single run of these lines of a load, as far as the exchange's own certificate
-/// lets jobs run at once.
+/// The answer of the single run of a load's lines. Jobs run in parallel as far as the exchange's
+/// own certificate permits.
 #[tactic(auto, using(run_answers::proofs::Opened::limit_few))]
 pub fn load_answer<R: Threads + Wait + Sync, G: Gate + Sync>(
     host: &Host<'_, R, G>,

@@ -15,7 +15,7 @@ use plex_io::{Gate, Shelf};
 use std::sync::Wait;
 use std::thread::Threads;
 
-/// `timed`.
+/// Performs `timed`.
 #[tactic(auto, using(answer_meaning::proofs::Stages::comes_rules))]
 pub fn perform_timed<R: Threads + Wait + Sync, S: Shelf, G: Gate + Sync>(
     host: &Host<'_, R, G>,

@@ -13,7 +13,7 @@ use Rattle.answer_meaning.specs.declared.answer.Stop.{Stop}
 use Rattle.answer_meaning.proofs.Stages.{performs_go, performs_told}
 use Rattle.worker_answers.proofs.performing.perform_certified.Goals as goal
 
--- three stages that leave what is held, and then the run
+-- three stages that do not change the files, and then the run
 runs_with : (held held' held'' : Option Files) (w : RunWords) (name : Word) (b m n a : ℕ) (x : Exchange)
     (lines : List Line) (text : Option (List ℕ)) (r : Result Answer Stop)
     → Comes held (exchange_at w.exchange) b m (Ok x) → held' ≡ held → Comes held' (lines_at x w.signals) m n (Ok lines)
