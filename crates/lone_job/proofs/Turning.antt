@@ -28,12 +28,12 @@ use Rattle.job_runner.specs.Seen.{free_to_write}
 use Rattle.lone_job.specs.Turns.{HasRetiredOn, HasTurnedAlone, MayTurn, RunEnds, arrived}
 use Rattle.lone_job.proofs.Words.{free_stores}
 
--- what the run leaves
+-- what the job's run leaves
 pub done_is : (own : Own) (over : Option Outcome) (done : JobDone) → done.sends ≡ own.sends → done.chain ≡ own.chain
     → Some done.outcome ≡ over → done ≡ done_of own over
 done_is own over done sends chain outcome = λ i. record { sends = sends i; chain = chain i; outcome = outcome_of (outcome i) }
 
--- the number of the next job is one of 64 bits
+-- the number of the next job fits 64 bits
 pub number_fits : (x : Exchange) (books : Account) (top : Top) → MayTurn x books top → books.state.ended + books.running + 1 < 2 ^ 64
 number_fits x books top may =
     let few = (goes_on books.limit books.state may.turn.goes_on).few in

@@ -1,4 +1,4 @@
--- The words of a root, and a run on them.
+-- The memory words of a root, and a run on them.
 use Rattle.std.proofs.Common.{◌≡◌, ℕ, ◌≤◌, Bool, true, false, List, [], ◌∷◌, length, Option, Some}
 use Rattle.std.proofs.Common.{refl, sym, ap, ◌∙◌, subst, arith}
 use Rattle.std.specs.Prelude.{◌&&◌, not}
@@ -32,12 +32,12 @@ use Rattle.shared_store.proofs.Loaned.{seen_by_all}
 use Rattle.job_runner.specs.Seen.{free_to_read, free_to_write}
 use Rattle.lone_job.specs.Turns.{HasRunAlone}
 
--- ## Stores beside loans
+-- ## Stores while words are lent
 
 pub and_not : (a b : Bool) → a ≡ true → b ≡ false → (a && not b) ≡ true
 and_not a b e f = ap (λ t. t && not b) e ∙ ap (λ t. not t) f
 
--- stores that may be made, none of them to a word of a loan's permit, may be made beside the loans
+-- stores that are allowed, and that no loan's permit may read, are allowed while the words are lent
 pub free_stores : (t : Top) (ts : List Touch) → MayStore (is_word_of t.values) ts
     → ((l : Lent) → Has t.loans l → (w : ℕ) → may_read l.permit w ≡ true → NoStore w ts) → MayStore (free_to_write t) ts
 free_stores t [] may aside = tt
@@ -49,7 +49,7 @@ free_stores t (Store u v ∷ ts) may aside = (
   free_stores t ts may.1 (λ l has w reads. (aside l has w reads).1),
 )
 
--- ## A job runs on the words of a root that has lent nothing
+-- ## A job runs on the words of a root without loans
 
 may_make : (x : Exchange) (top : Top) (ts : List Touch) → top.loans ≡ [] → length top.values ≡ x.cells
     → x.cells ≤ 1000000 → AreOfCells x ts → AllByRecursion (MayMake (free_to_read top) (free_to_write top)) ts
@@ -84,14 +84,14 @@ module _ (x : Exchange) (code : Code) (kept : IsExchange x) (start : JobStart) (
         refl,
       )
 
-  -- where the run begins
+  -- where the run starts
   pub begins_alone : (run : Private) (mid : Top) → mid ≡ top → run ≡ started code start
       → (b : Begins x code run mid.values (free_to_read mid) (free_to_write mid)) × (b.start ≡ start)
   begins_alone run mid mid_is run_is =
       subst (λ (z : Private × Top). (b : Begins x code z.0 z.1.values (free_to_read z.1) (free_to_write z.1))
       × (b.start ≡ start)) (λ i. (sym run_is i, sym mid_is i)) here
 
-  -- what it leaves
+  -- where the run ends
   pub has_run_alone : (run left : Private) (mid now : Top) (told now_told : Option (List Touch)) → mid ≡ top
       → run ≡ started code start → ComesToEnd code.ops run mid.values told left now.values now_told
       → ((b : Begins x code run mid.values (free_to_read mid) (free_to_write mid))
@@ -108,7 +108,7 @@ module _ (x : Exchange) (code : Code) (kept : IsExchange x) (start : JobStart) (
         comes = record { end = end.end; ends = end.ends; run_is = end.run_is; words_are = end.store_is };
       }
 
--- what the run leaves is what the job leaves
+-- the end of the run is what the job leaves
 pub done_alone : (run : Private) (done left : JobDone) → Leaves run left → done.sends ≡ run.own.sends
     → done.chain ≡ run.own.chain → Some done.outcome ≡ run.over → done ≡ left
 done_alone run done left l sends chain outcome =

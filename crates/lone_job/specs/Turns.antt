@@ -1,4 +1,4 @@
--- A job that runs alone, on the words of a root that has lent nothing.
+-- A job that runs alone, on the memory words of a root without loans.
 use Rattle.std.specs.Prelude.{◌≡◌, ℕ, zero, suc, ◌≤◌, List, [], Some, None}
 use Rattle.plex_limits.specs.declared.limits.TheConstants.{MOST_JOBS}
 use Rattle.job_types.specs.declared.job.JobStart.{JobStart}
@@ -20,15 +20,14 @@ use Rattle.shared_store.specs.declared.view.Top.{Top}
 use Rattle.shared_store.specs.Loans.{unlent}
 use Rattle.shared_store.specs.Seats.{RootView, StoreId}
 
--- the next job of the books may run on the root's own words: there is a turn, and the root has lent
--- nothing
+-- the next job of the books may run on the root's own words: the run has a next job, and nothing is
+-- lent
 pub record MayTurn (x : Exchange) (books : Account) (top : Top) : Type 0 where
   pub turn : HasTurn x books top.values
   pub limited : books.limit ≤ MOST_JOBS
   pub bare : top.loans ≡ []
 
--- the run of this start by the code, alone on these words, comes to its end: this run, and the
--- values that this root has
+-- the code runs this start to its end, alone on these words: the run then, and the root's words
 pub record RunEnds (code : Code) (start : JobStart) (words : List ℕ) (run : Private)
     (root : Top) : Type 0 where
   pub end : Machine
@@ -36,21 +35,21 @@ pub record RunEnds (code : Code) (start : JobStart) (words : List ℕ) (run : Pr
   pub run_is : run ≡ end.run
   pub words_are : root.values ≡ end.world.store
 
--- a job of this start has run to its end on these words, which the root had lent to nobody: its run
--- leaves what the job means, and the root has the words after the job
+-- a job of this start has run to its end on these words, none of which was lent: its run leaves
+-- what the job means, and the root has the words after the job
 pub record HasRunAlone (x : Exchange) (code : Code) (start : JobStart) (words : List ℕ)
     (run : Private) (root : Top) : Type 0 where
   pub leaves : Leaves run (left_by x start words)
   pub root_is : root ≡ unlent (words_after x start words)
   pub comes : RunEnds code start words run root
 
--- the state once lines may arrive, where so many jobs run: they arrive where none does
+-- the state after arrivals, which take place only where no job is running
 abbrev pub arrived : Exchange → ℕ → State → State
 arrived x zero s = arrivals x s
 arrived x (suc n) s = s
 
--- a job of this start, which left this, has retired in the books and on the words of a root, and
--- what was due arrived where no job ran any more; the root lends what it lent
+-- a job with this start and this outcome has retired in the books and on the root's words, and if
+-- no job is running any more, the lines that are due have arrived; the root's loans are unchanged
 pub record HasRetiredOn (x : Exchange) (start : JobStart) (done : JobDone) (books : Account)
     (top : Top) (next : Account) (now : Top) : Type 0 where
   pub settled : Account
@@ -58,9 +57,8 @@ pub record HasRetiredOn (x : Exchange) (start : JobStart) (done : JobDone) (book
   pub next_is : next ≡ record settled { state = arrived x settled.running settled.state }
   pub loans : now.loans ≡ top.loans
 
--- the next job of the books has had its turn on the words of a root that lent nothing, and still
--- does not: its run by the code came to its end with so many instructions, it retired then, and
--- what was due arrived
+-- the next job of the books has run by the code, alone on the words of a root without loans, in
+-- this many instructions; it has retired, and the lines that are due have arrived; nothing is lent
 pub record HasTurnedAlone (x : Exchange) (code : Code) (books : Account) (top : Top)
     (next : Account) (now : Top) (steps : ℕ) : Type 0 where
   pub start : JobStart
@@ -78,12 +76,12 @@ pub record HasTurnedAlone (x : Exchange) (code : Code) (books : Account) (top : 
   pub bare : now.loans ≡ []
   pub turn : IsTurn x books next top.values now.values
 
--- the root is that of the same store, and lends the same
+-- the root is that of the same store, with the same loans
 pub record KeepsLoans (root now : RootView) : Type 0 where
   pub home : now.0 ≡ root.0
   pub loans : now.1.loans ≡ root.1.loans
 
--- the root is that of the store, and has lent nothing
+-- the root is that of this store, and nothing is lent
 pub record LendsNothing (store : StoreId) (root : RootView) : Type 0 where
   pub home : root.0 ≡ store
   pub bare : root.1.loans ≡ []

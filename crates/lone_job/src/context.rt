@@ -1,11 +1,11 @@
-// What a run is of.
+// The context of a run.
 use checked::Checked;
 use exchange_model::Exchange;
 use machine_code::Code;
 use store_layout::Layout;
 
-/// What a run is of: an exchange, with its layout, its code and what is kept of its certificate,
-/// and how many of its jobs may run at once.
+/// The context of a run: an exchange with its layout, its code and the summaries kept of its
+/// certificate, and the most jobs that may run at a time.
 #[derive(Clone, Copy)]
 pub struct RunContext<'a> {
     pub exchange: &'a Exchange,

@@ -1,10 +1,11 @@
-// What a job does on the words of a store as its root sees them: it runs alone there, by the
-// compiled code, or it only retires.
+// Runs a job alone, by the compiled code, on the memory words that the root of a store owns; or
+// only retires a job there.
 //
-// What goes in: what a run is of, books in which no job runs, and the root of a store that has lent
-// nothing, which stand for a valid state. What comes out: the books and the root after one turn of
-// the single run, and how many instructions the job made. A gate is called before and after it.
-// Where a job ran elsewhere it retires here. It knows no threads, and not why a job runs alone.
+// In: a run's context, books in which no job is running, and the root of a store without loans;
+// together they stand for a valid state. Out: the books and the root after one turn of the single
+// run, and the number of instructions executed. A gate is called before and after the job. A job
+// that ran elsewhere is only retired here. The crate starts no thread, and does not decide which
+// job runs alone.
 #![tactic(auto)]
 
 mod context;

@@ -1,4 +1,4 @@
-// The next job runs to its end on the root's own words, and retires.
+// Runs the next job to its end on the root's own words, and retires it.
 ghost use Rattle.std.specs.Prelude.{◌≡◌, ◌+◌, ◌<◌, ◌^◌, [], IfOk, IfErr, OnOk};
 ghost use Rattle.store_layout.specs.Laid.{IsLayout};
 ghost use Rattle.source_meaning.specs.Valid.{MayBe};
@@ -24,8 +24,8 @@ use run_books::{Books, let_arrive};
 use run_engines::length_of;
 use shared_store::{RootSeat, SharedStore};
 
-/// A job that ran alone: the root of the store, how many instructions its run made, modulo 2^64, of
-/// which entry it was, and how long, in instructions.
+/// The result of a job that ran alone: the root of the store, the number of instructions of its run
+/// modulo 2^64, its entry, and its length in instructions.
 #[derive(Drop)]
 pub struct Alone {
     pub root: RootSeat,
@@ -42,9 +42,9 @@ pub fn number_of_next(books: &Books) -> u64
     books.ended() + books.running() + 1
 }
 
-/// The next job runs to its end on the root's own words, in a run that is over, and the gate is
-/// called before and after it. It retires at once, and what is due arrives. Where memory is refused
-/// the root comes back, which has lent nothing.
+/// Runs the next job to its end on the root's own words, and calls the gate before and after it.
+/// `run` is started anew for it. The job retires at once, and the lines that are due arrive. Out of
+/// memory is an error that returns the root, without loans.
 #[tactic(auto, using(crate::proofs::Turning::some_next))]
 pub fn turn_alone<G: Gate>(
     context: &RunContext<'_>,
@@ -86,9 +86,9 @@ pub fn turn_alone<G: Gate>(
     }
 }
 
-/// A job of this start, which has left this, retires in the books and on the words of the root, and
-/// what is due arrives where no job runs any more. Where memory is refused the root comes back with
-/// the loans that it had.
+/// Retires a job in the books and on the root's words, given its start and its outcome. Where no
+/// job is running any more, the lines that are due arrive. Out of memory is an error that returns
+/// the root with the loans that it had.
 pub fn retire_on_root(
     context: &RunContext<'_>,
     store: &SharedStore,
@@ -120,7 +120,7 @@ pub fn retire_on_root(
     Ok(root)
 }
 
-/// What is due arrives, where no job runs.
+/// Lets the lines that are due arrive, if no job is running.
 fn arrive(books: &mut Books, exchange: &Exchange) -> Result<(), Memory>
     ensures { OnOk result (books.new
         ≡ record books.old { state = arrived exchange.now books.old.running books.old.state }) }
@@ -131,7 +131,7 @@ fn arrive(books: &mut Books, exchange: &Exchange) -> Result<(), Memory>
     Ok(())
 }
 
-/// Runs a job to its end on the words of a root that has lent nothing.
+/// Runs a job to its end on the words of a root without loans.
 fn run_on_root(
     exchange: &Exchange,
     code: &Code,
