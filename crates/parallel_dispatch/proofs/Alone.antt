@@ -1,5 +1,4 @@
--- Where no job flies: the books and the root are those of the state, and the next job may run
--- alone.
+-- Without jobs in flight, books and root are those of the state, and the next job may run alone.
 use Rattle.std.proofs.Common.{inl, ◌≡◌, ℕ, ◌+◌, ◌<◌, ◌≤◌, List, [], ◌∷◌, Some, None, refl, sym, ap}
 use Rattle.std.proofs.Common.{◌∙◌, subst, arith}
 use Rattle.plex_limits.specs.declared.limits.TheConstants.{MOST_JOBS}
@@ -37,13 +36,13 @@ use Rattle.parallel_dispatch.specs.Moves.{AreCounted, HasTurned, MayRunAlone, Su
 use Rattle.parallel_dispatch.specs.Windows.{View}
 use Rattle.parallel_dispatch.proofs.Events.{is_issued, issue_then_turn, turn_led}
 
--- ## No job flies
+-- ## No job is in flight
 
 -- the state is that of the books
 pub state_is : (x : Exchange) (k : KeptSummaries) (s : State) (books : Account) (top : Top) → Fly x k s books top [] → with_words books.state top.values ≡ s
 state_is x k s books top fly = ap (with_words books.state) fly.values ∙ fly.ahead.same
 
--- the root has lent nothing
+-- the root has no loans
 pub bare_of : (x : Exchange) (k : KeptSummaries) (s : State) (books : Account) (top : Top) → Fly x k s books top [] → top.loans ≡ []
 bare_of x k s books top fly = by top.loans fly.listed
   where
@@ -66,7 +65,7 @@ fly_none x k s books top valid same nobody bare = record {
 
 -- ## The next job runs alone
 
--- a context that suits is one
+-- a context that belongs to these parts is a valid context
 pub context_fits : {x : Exchange} {o : Code} {s : StoreId} {b : BookId} {k : KeptSummaries} {w : ℕ} {c : RunContext}
     {m : Means} {book : BookId} → Suits x o s b k w c m book → IsContext c
 context_fits {c = c} u = record {
@@ -132,7 +131,7 @@ module _ (x : Exchange) (k : KeptSummaries) (code : Code) (kept : IsExchange x) 
       let limit = t.turn.limit in
       omega (arith, few, ended, runs, before, limit)
 
-  -- its events are Issue, its instructions, and Retire
+  -- its events are Issue, the Steps of its instructions, and Retire
   led_alone : (workers : ℕ) → 0 < workers → NoLineBefore (books.state.ended + 1) books.state.lines
       → IsLed (setting x code k workers) whole_turn books top [] last left.root.1 [] left.steps
   led_alone workers some line =

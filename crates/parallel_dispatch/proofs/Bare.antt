@@ -1,5 +1,4 @@
--- The permit of a trace lets the trace be made, and no more than the touches of the trace are
--- permitted.
+-- The permit of a trace permits all touches of the trace, and no others.
 use Rattle.std.proofs.Common.{◌≡◌, ℕ, true, List, [], ◌∷◌, subst, inr, ⊎_elim}
 use Rattle.std.proofs.lemmas.Bool.{or_cases, or_left, or_right, false≢true}
 use Rattle.std.specs.List.{list_any}

@@ -1,4 +1,4 @@
--- Which move may be made next.
+-- Which moves are allowed next.
 use Rattle.std.proofs.Common.{◌≡◌, ◌≢◌, ℕ, ◌+◌, ◌<◌, ◌≤◌, Bool, List, [], ◌∷◌, length, Option, Some}
 use Rattle.std.proofs.Common.{None, refl, sym, ap, ◌∙◌, subst, arith}
 use Rattle.std.specs.Prelude.{IsTrue}
@@ -79,7 +79,7 @@ pub may_issue_beside : (k own : KeptSummaries) (books : Account) (w : View) (sta
 may_issue_beside k own books w start behind is lt line same pass none = record
     { start = start; may = may_fly_beside k own books w start behind is lt line same pass none }
 
--- it is the one that comes next, wherever it is kept
+-- the job that may be issued is the next one, also once it was moved
 pub next_flies : (k : KeptSummaries) (books : Account) (w : View) (start place next : JobStart) → MayIssue k books w
     → start ≡ place → place ≡ next → Some next ≡ upcoming books → MayFly k books w start
 next_flies k books w start place next may here there is =

@@ -1,4 +1,4 @@
--- Each instruction is counted once, and so are the events of a list.
+-- Each instruction is counted once, and so are those in a list of events.
 use Rattle.std.proofs.Common.{◌≡◌, ℕ, zero, suc, ◌+◌, ◌%◌, ◌^◌, Bool, true, false, if◌then◌else◌}
 use Rattle.std.proofs.Common.{List, [], ◌∷◌, ◌++◌, refl, sym, ap, ◌∙◌, arith}
 use Rattle.std.proofs.Math.Nat.{mod-add-mod}
@@ -35,7 +35,7 @@ ends_made : (fs : List Frame) (p : Private) → (ends fs p).made ≡ p.made
 ends_made [] p = refl
 ends_made (f ∷ fs) p = refl
 
--- what an instruction does leaves the count as it is
+-- the effect of an instruction does not change the count
 row_made : (op : Op) (v : ℕ) (p : Private) → (row op v p).made ≡ p.made
 row_made (Stmt point) v p = either _ _ _ p.made refl refl
 row_made (Ldi r n) v p = refl
@@ -76,7 +76,7 @@ row_made (Ret answer) v p = returns_made p.frames answer p
 row_made (Trf a n) v p = refl
 row_made End v p = ends_made p.frames p
 
--- one more was made
+-- a step counts one instruction
 pub step_made : (op : Op) (m : Machine) (n : ℕ) → m.run.made ≡ n % 2 ^ 64 → (machine_step op m).run.made ≡ (n + 1) % 2 ^ 64
 step_made op m n is = row_made op (loaded (reach op m.run) m.world.store) (made_one m.run) ∙ ap (λ k. (k + 1) % 2 ^ 64) is ∙ mod-add-mod n (2 ^ 64) 1
 
@@ -100,7 +100,7 @@ steps_turn n job = (let all : steps_in (turn_of n job) ≡ steps_in (so_many_ste
     + 0 = steps_append (so_many_steps n job) (Retire ∷ []) in let steps = steps_so_many n job in omega
     (arith, all, steps))
 
--- two lists, each of so many modulo 2^64
+-- the counts of two lists, each modulo 2^64, add up to that of both
 pub sum_made : (es fs : List CoreEvent) (steps made : ℕ) → steps ≡ steps_in es % 2 ^ 64 → made ≡ steps_in fs % 2 ^ 64
     → (steps + made) % 2 ^ 64 ≡ steps_in (es ++ fs) % 2 ^ 64
 sum_made es fs steps made one other =

@@ -1,4 +1,4 @@
--- What each move leaves of what the type of the dispatcher's state keeps.
+-- Each move keeps the invariant of the dispatcher's state.
 use Rattle.std.proofs.Common.{◌≡◌, ℕ, ◌+◌, ◌%◌, ◌^◌, ◌<◌, ◌≤◌, List, [], length, None, Some, refl}
 use Rattle.std.proofs.Common.{sym, ap, ◌∙◌, subst, arith}
 use Rattle.std.specs.List.{AllByRecursion}
@@ -47,7 +47,7 @@ module _ (x : Exchange) (k : KeptSummaries) (code : Code) (store : StoreId) (wor
   Here books root w steps = IsDispatcherState x k code store workers first limit books root w steps
 
   module _ (o : AreOf x code k) where
-    -- ## The beginning
+    -- ## The first state
 
     pub state_opened : (y : Exchange) → y ≡ x → (book : BookId) (pen : PenView) (b : StoredRun)
         → MayBegin x store book first limit pen b → (books : Account)
@@ -73,7 +73,7 @@ module _ (x : Exchange) (k : KeptSummaries) (code : Code) (store : StoreId) (wor
       pub state_flies : Flying x k books root w
       state_flies = (after x first h.reached.retired, h.reached.fly)
 
-      -- books that were handed on are the dispatcher's
+      -- the books passed to a call are the dispatcher's
       state_same : (old : Account) → old ≡ books → Here old root w steps
       state_same old is = subst (λ (b : Account). Here b root w steps) (sym is) h
 
@@ -110,7 +110,7 @@ module _ (x : Exchange) (k : KeptSummaries) (code : Code) (store : StoreId) (wor
         counted = t.counted;
       }
 
-      -- ## What may be done next
+      -- ## The next move
 
       pub state_line : (w.loans ≡ [] → ending_at books.limit books.state ≡ None) → w.loans ≡ [] → NoLineBefore (books.state.ended + 1) books.state.lines
       state_line goes = stand_line x k code o.exchange o.checked o.true_of workers limit first books root.1 w.loans steps goes h.reached
@@ -134,7 +134,7 @@ module _ (x : Exchange) (k : KeptSummaries) (code : Code) (store : StoreId) (wor
         over_here : IsReached x k code workers first limit books root.1 [] steps
         over_here = subst (λ (ls : List Lent). IsReached x k code workers first limit books root.1 ls steps) none h.reached
 
-        -- the root has lent nothing
+        -- the root has no loans
         pub state_bare : root.1 ≡ unlent root.1.values
         state_bare = none_lent x k code o.exchange o.checked o.true_of workers limit first books root.1 steps over_here
 
@@ -148,7 +148,7 @@ module _ (x : Exchange) (k : KeptSummaries) (code : Code) (store : StoreId) (wor
               subst (λ (z : Account × (List ℕ × ℕ)). EndsAs x code first limit z.0.state z.1.0 e z.1.1)
               (λ i. (sym books_are i, (sym words_are i, sym steps_are i))) state_ends
 
-        -- ## A rest
+        -- ## A run that is handed back
 
         module _ (valid : IsValid x first) where
           state_way : (run : Standing) → run.books ≡ books → run.words ≡ root.1.values → IsOnTheWay x first limit run

@@ -1,5 +1,4 @@
--- Where events lead that leave no job in the window, and the run is over: the end of the single
--- run.
+-- Events that leave the window empty when the run is over have led to the end of the single run.
 use Rattle.std.proofs.Common.{◌≡◌, ⊎_elim, ℕ, ◌+◌, ◌<◌, List, [], ◌∷◌, ◌++◌, length, get_or, Some}
 use Rattle.std.proofs.Common.{refl, sym, ap, ◌∙◌, subst, slice_get, arith, length-set}
 use Rattle.std.proofs.lemmas.Bool.{cases_eq}
@@ -118,7 +117,7 @@ module _ (x : Exchange) (kept : IsExchange x) (code : Code) (faithful : Faithful
       let long : length c.window ≡ 0 = ap length none in
       record { counted = omega (arith, zero_now); few = omega (arith, zero_now, long); goes_on = λ n less. absurd (omega (arith, less, zero_now, long)) }
 
-  -- where no job is left in the window and the run is over, it is over as the single run is
+  -- if the window is empty and the run is over, the single run is over in the same state
   pub run_ends : (c : Core) (e : Ending) → Follows c → Went x first c → c.window ≡ [] → ending_at c.limit c.state ≡ Some e
       → (c.state ≡ after x first c.retired) × (jobs_at_end x c.limit first ≡ c.retired)
   run_ends c e f w none over =

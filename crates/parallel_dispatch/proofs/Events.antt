@@ -1,4 +1,4 @@
--- Each move of the dispatcher as events of the core.
+-- Each move of the dispatcher as events of the core of events.
 use Rattle.std.proofs.Common.{◌≡◌, ℕ, ◌+◌, ◌%◌, ◌^◌, ◌<◌, List, [], ◌∷◌, ◌++◌, length, Some, refl}
 use Rattle.std.proofs.Common.{sym, ap, ◌∙◌, subst, arith}
 use Rattle.std.proofs.lemmas.List.{length-map, map-append}
@@ -46,7 +46,7 @@ follows_all : (k : KeptSummaries) (code : Code) (start : JobStart) (loans : List
 follows_all k code start [] all = tt
 follows_all k code start (l ∷ rest) all = (all.0, follows_all k code start rest all.1)
 
--- the next job may be issued, and what is shown then is the core after it
+-- the next job may be issued, and the parts after the call show the next state of the core
 pub is_issued : (x : Exchange) (code : Code) (k : KeptSummaries) (workers : ℕ) (books : Account) (top : Top)
     (loans : List Lent) (start : JobStart) (p : Permit) → books.running ≡ length loans → Some start ≡ upcoming books
     → length loans < workers → NoLineBefore (books.state.ended + length loans + 1) books.state.lines
@@ -73,7 +73,7 @@ is_issued x code k workers books top loans start p running next room line pass r
     (lent top start p ∷ []))) in
     subst (Runs (setting x code k workers) (Issue ∷ []) c) same (runs_one (setting x code k workers) c Issue can)
 
--- ## The oldest job has its turn
+-- ## The oldest job finishes and retires
 
 settles_shown : (x : Exchange) (code : Code) (rest : List Lent) (s : State) (words : List ℕ) (t : State)
     → t ≡ with_words s words → settles x (standing code rest) t ≡ with_words (arrived x (length rest) s) words
@@ -89,7 +89,7 @@ module _ (x : Exchange) (code : Code) (k : KeptSummaries) (workers : ℕ) (books
   abbrev last : Account
   last = record next { state = arrived x next.running next.state }
 
-  -- the core in which the job has retired is what is shown
+  -- the state of the core after the retirement is the one shown
   gone_is : (c : Core) (retired : ℕ) → c.state ≡ with_words books.state top.values → c.limit ≡ books.limit → c.retired ≡ retired
       → lets_go x (record { start = start; run = end.run }) (standing code rest)
       (at_machine c start (standing code rest) end) ≡ shown code last now rest (retired + 1)
@@ -107,7 +107,7 @@ module _ (x : Exchange) (code : Code) (k : KeptSummaries) (workers : ℕ) (books
   turn : HasTurn k' start top.values end
   turn = has_turn k' start top.values end ends
 
-  -- the job flew, and retires
+  -- a job that was in flight retires
   pub turn_led : (l : Lent) → l.start ≡ start → (made : ℕ) → made ≡ end.run.made
       → IsLed (setting x code k workers) turn_of books top (l ∷ rest) last now rest made
   turn_led l is made made_is = record {
@@ -119,7 +119,7 @@ module _ (x : Exchange) (code : Code) (k : KeptSummaries) (workers : ℕ) (books
         (turn.runs c (standing code rest) (ap (λ (a : JobStart). record { start = a; run = started code a } ∷ standing code rest) is) refl);
   }
 
--- ## A job runs alone: it is issued, and has its turn at once
+-- ## A job runs alone: it is issued, runs and retires at once
 
 pub issue_then_turn : (k : Setting) (books mid next : Account) (top lends now : Top) (loans between left : List Lent)
     (made : ℕ) → IsIssued k books top loans mid lends between → IsLed k turn_of mid lends between next now left made

@@ -1,4 +1,4 @@
--- One more job flies.
+-- One more job in flight.
 use Rattle.std.proofs.Common.{◌≡◌, inl, inr, ℕ, ◌+◌, ◌<◌, Bool, true, false, List, [], ◌∷◌, ◌++◌}
 use Rattle.std.proofs.Common.{length, Some, None, refl, sym, ap, ◌∙◌, subst, arith, if◌then◌else◌}
 use Rattle.std.proofs.lemmas.Bool.{ltb-true}
@@ -68,7 +68,7 @@ within_more : (limit ended : ℕ) (loans : List Lent) (l : Lent) → ended + len
 within_more limit ended [] l lt = omega (arith, lt)
 within_more limit ended (o ∷ rest) l lt = (let e = long_more rest l in omega (arith, lt, e))
 
--- ## The job is lent its words, and flies
+-- ## The job borrows its words
 
 module _ (x : Exchange) (k : KeptSummaries) (kept : IsExchange x) (checked : IsChecked x k) (true_of : AreTrue x k) where
   ways_of : (s : State) (n : Summary) (start : JobStart) (loans : List Lent) → IsSummaryOf k start n → IsJob x start.job
@@ -97,7 +97,7 @@ module _ (x : Exchange) (k : KeptSummaries) (kept : IsExchange x) (checked : IsC
     is_job = (start_fits x (with_words books.state s.store) start
         (subst (IsValid x) (sym fly.ahead.same) (begun_all_valid x (jobs_of starts) s fly.valid)) next).job
 
-    -- the books have the count of the state
+    -- the books and the state have the same count of ended jobs
     same_ended : books.state.ended ≡ s.ended
     same_ended = ap (λ (t : State). t.ended) fly.ahead.same
 
@@ -132,14 +132,14 @@ module _ (x : Exchange) (k : KeptSummaries) (kept : IsExchange x) (checked : IsC
         writes_here = subst (λ (q : Permit). (w : ℕ) → may_write q w ≡ true → MayWrite x n start s.chains w) (sym here)
             (bare_writes x n start s.chains (trace_of x start s.store) permitted)
 
-        -- the permit is apart from all loans
+        -- the permit conflicts with no loan
         pub fits_beside : FitsBeside top.loans p
         fits_beside l has =
             let has_here = fly.listed l has in
             apart_from x k kept checked s fly.valid l n start p (of_loan (IsLent x k s) loans l fly.lent has_here) (older_fits l has_here) fits told
             (of_start (λ (older : JobStart). PassBy k older start) loans l pass has_here) reads_here writes_here
 
-        -- the loan is one for the job
+        -- the loan fits the job
         pub for_job : IsForJob x (lent top start p)
         for_job = record {
           state = s;

@@ -1,4 +1,4 @@
--- What is left where memory was refused.
+-- What is left when a call is out of memory.
 use Rattle.std.proofs.Common.{◌≡◌, ◌≢◌, inl, inr, List, [], ◌∷◌, refl, sym, ap, ◌∙◌, subst}
 use Rattle.machine_code.specs.Coded.{Code}
 use Rattle.exchange_model.specs.declared.exchange.Exchange.{Exchange}
@@ -14,7 +14,7 @@ use Rattle.lone_job.specs.Turns.{LendsNothing}
 use Rattle.parallel_dispatch.specs.Moves.{Flying, IsBare, IsLeft}
 use Rattle.parallel_dispatch.specs.Windows.{View}
 
--- before a move is made
+-- before a move
 pub left_flying : (x : Exchange) (k : KeptSummaries) (store : StoreId) (books : Account) (root : RootView) (w : View)
     → root.0 ≡ store → Flying x k books root w → IsLeft store root w.loans
 left_flying x k store books root w home flying = record { home = home; listed = flying.1.listed }
@@ -27,7 +27,7 @@ left_same store root now loans left home same left_is l = record {
   listed = subst (λ (z : List Lent × List Lent). (o : Lent) → Has z.0 o → Has z.1 o) (λ i. (sym same i, sym left_is i)) l.listed;
 }
 
--- one has come back
+-- one loan was returned
 pub left_back : (x : Exchange) (code : Code) (store : StoreId) (root now : RootView) (l : Lent) (rest : List Lent)
     (seat : JobView) (run : Private) → HasRun x code store l seat run → now ≡ (root.0, taken_back root.1 seat.1)
     → IsLeft store root (l ∷ rest) → IsLeft store now rest
@@ -44,7 +44,7 @@ left_back x code store root now l rest seat run has is left = record {
     by o (inl is) other = absurd (other (sym (ap (λ (m : Lent). m.number) is)))
     by o (inr has) other = has
 
--- the oldest has come back, and whatever else was done left the loans as they were
+-- the oldest loan was returned, and nothing else changed the loans
 pub left_oldest : (x : Exchange) (code : Code) (store : StoreId) (root now last : RootView) (all : List Lent) (l : Lent)
     (rest left : List Lent) (seat : JobView) (run : Private) → HasRun x code store l seat run
     → now ≡ (root.0, taken_back root.1 seat.1) → all ≡ l ∷ rest → IsLeft store root all
@@ -52,7 +52,7 @@ pub left_oldest : (x : Exchange) (code : Code) (store : StoreId) (root now last 
 left_oldest x code store root now last all l rest left seat run has is all_is before home same left_is =
     left_same store now last rest left home same left_is (left_back x code store root now l rest seat run has is (subst (IsLeft store root) all_is before))
 
--- none flies any more
+-- no job is in flight any more
 pub left_bare : (store : StoreId) (root : RootView) (loans : List Lent) → loans ≡ [] → IsLeft store root loans → IsBare store root
 left_bare store root loans none left = record { home = left.home; bare = by root.1.loans (λ o has. subst (λ ls. Has ls o) none (left.listed o has)) }
   where
@@ -60,6 +60,6 @@ left_bare store root loans none left = record { home = left.home; bare = by root
     by [] never = refl
     by (l ∷ rest) never = absurd (never l (inl refl))
 
--- a job that ran alone left nothing lent
+-- a job that ran alone leaves no loans
 pub left_nothing : (store home : StoreId) (root : RootView) (loans : List Lent) → LendsNothing home root → home ≡ store → IsLeft store root loans
 left_nothing store home root loans none same = record { home = none.home ∙ same; listed = λ o has. absurd (subst (λ ls. Has ls o) none.bare has) }

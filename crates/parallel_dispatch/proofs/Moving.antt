@@ -1,4 +1,4 @@
--- The moves, over what the calls leave.
+-- The moves, in terms of the contracts of the calls that they make.
 use Rattle.std.proofs.Common.{◌≡◌, ℕ, zero, suc, ◌+◌, ◌^◌, ◌<◌, ◌≤◌, List, [], ◌∷◌, ◌++◌, length}
 use Rattle.std.proofs.Common.{Option, Some, refl, sym, ap, ◌∙◌, subst, arith}
 use Rattle.std.specs.Prelude.{slice_get}
@@ -47,13 +47,13 @@ use Rattle.parallel_dispatch.proofs.Issuing.{fits_beside, fly_more, for_job, is_
 use Rattle.parallel_dispatch.proofs.Retiring.{Leaves, back, done_is, fly_fewer, makes}
 use Rattle.parallel_dispatch.proofs.Retiring.{may_write_there, turn_ended}
 
--- an item of a list is there
+-- an index below the length has an item
 slice_get_there : {A : Type 0} (xs : List A) (i : ℕ) → i < length xs → (x : A) × (slice_get xs i ≡ Some x)
 slice_get_there [] i lt = absurd (omega (arith, lt))
 slice_get_there (x ∷ xs) zero lt = (x, refl)
 slice_get_there (x ∷ xs) (suc i) lt = slice_get_there xs i (omega (arith, lt))
 
--- ## One more flies
+-- ## One more job in flight
 
 module _ (x : Exchange) (k : KeptSummaries) (kept : IsExchange x) (checked : IsChecked x k) (true_of : AreTrue x k)
     (books : Account) (root : RootView) (w : View) (start : JobStart) (may : MayFly k books w start)
@@ -61,11 +61,11 @@ module _ (x : Exchange) (k : KeptSummaries) (kept : IsExchange x) (checked : IsC
   entry_there : start.job.entry < length x.entries
   entry_there = (is_job x k kept checked true_of flying.0 books root.1 w.loans flying.1 start may.next).entry
 
-  -- the number of the next job is one of 64 bits
+  -- the number of the next job fits 64 bits
   pub number_fits : AreCounted books w → books.state.ended + books.running + 1 < 2 ^ 64
   number_fits counted = (let few = (upcoming_parts books start may.next).0 in let most = counted.limited in omega (arith, few, most))
 
-  -- a summary is kept of its entry
+  -- the kept summaries have one for the job's entry
   pub has_told : (n : Summary) × IsSummaryOf k start n
   has_told = (let entry = entry_there in let each = checked.by_facts.each_entry in slice_get_there k.summaries start.job.entry (omega (arith, entry, each)))
 
@@ -96,7 +96,7 @@ module _ (x : Exchange) (k : KeptSummaries) (kept : IsExchange x) (checked : IsC
         subst (λ (z : Account × (Top × List Lent)). Fly x k s z.0 z.1.0 z.1.1) (λ i. (sym books_are i, (sym now_is i, sym loans_are i)))
         (fly_more x k kept checked true_of s books root.1 w.loans fly start may.next n told may.line (all_pass_of k start (starts_of w.loans) may.pass) p p_is)
 
-    -- it is the event Issue
+    -- the move is the event Issue
     pub issued_event : (code : Code) (next : Account) (o : Option JobStart) (now : Top) (loans : List Lent)
         → o ≡ upcoming books → next ≡ after_start o books → now ≡ lender start p root.1
         → loans ≡ w.loans ++ lent root.1 start p ∷ []
@@ -117,7 +117,7 @@ module _ (x : Exchange) (k : KeptSummaries) (kept : IsExchange x) (checked : IsC
   fly_here : (s : State) → Fly x k s books top w.loans → Fly x k s books top (l ∷ rest)
   fly_here s = subst (Fly x k s books top) loans_are
 
-  -- the root has the loan back
+  -- the loan was returned to the root
   module _ (s : State) (fly : Fly x k s books top w.loans) where
     mid_back : mid ≡ back x k kept checked true_of s books top l rest (fly_here s fly)
     mid_back = mid_is ∙ ap (λ (v : JobView). taken_back top v.1) has.seat_is
@@ -187,7 +187,7 @@ module _ (x : Exchange) (k : KeptSummaries) (kept : IsExchange x) (checked : IsC
           let limit = same_limit in
           omega (arith, ended, runs, limit)
 
-      -- its events are those of its instructions, and Retire
+      -- its events are the Steps of its instructions, and Retire
       led_then : (workers : ℕ) → left.steps ≡ run.made → IsLed (setting x code k workers) turn_of books top w.loans last left.root.1 v.loans left.steps
       led_then workers made =
           let led = retired_led x k code workers flying.0 books top l rest (fly_here flying.0 flying.1) store seat run

@@ -1,4 +1,4 @@
--- A job passes with each of several older ones, of which the youngest is asked first.
+-- A job passes the tests with each of several older ones; the youngest of them is tested first.
 use Rattle.std.proofs.Common.{◌≡◌, ℕ, zero, suc, ◌+◌, ◌-◌, ◌<◌, Bool, List, [], ◌∷◌, get_or, length}
 use Rattle.std.proofs.Common.{drop, sym, ap, ◌∙◌, subst, arith}
 use Rattle.std.specs.Prelude.{◌↔◌, IsTrue}
@@ -13,7 +13,7 @@ use Rattle.shared_store.specs.declared.view.Lent.{Lent}
 use Rattle.parallel_dispatch.specs.Flying.{starts_of}
 use Rattle.parallel_dispatch.specs.Moves.{FollowsAll, HasSummary}
 
--- what the tests tell
+-- what the result of the tests means
 pub passes_by : (k : KeptSummaries) (a b : JobStart) (r : Bool)
     → OfPair k a.job.entry b.job.entry (λ m n. IsTrue r ↔ Passes m n a b) → IsTrue r → MayFollow k a b
 passes_by k a b r of t = record { one = of.one; other = of.other; of_first = of.of_first; of_later = of.of_later; holds = of.holds.0 t }
@@ -38,7 +38,7 @@ passes_more k own later loans n i place l long lt at is same one all =
 pub passes_end : (k : KeptSummaries) (later : JobStart) (loans : List Lent) (n : ℕ) → PassAll k later (drop (n - n) loans) → PassAll k later loans
 passes_end k later loans n all = (let none : n - n ≡ 0 = omega arith in subst (λ m. PassAll k later (drop m loans)) none all)
 
--- a summary is kept of each of them
+-- the kept summaries have one for the entry of each job
 there_is : (k : KeptSummaries) (loans : List Lent) (place : ℕ) (l : Lent) → place < length loans
     → l ≡ get_or loans place l → AllByRecursion (HasSummary k) (starts_of loans) → HasSummary k l.start
 there_is k [] place l within is all = absurd (omega (arith, within))

@@ -1,4 +1,4 @@
--- The events from the first state on, to the end of the run.
+-- The events from the first state to the end of the run.
 use Rattle.std.proofs.Common.{◌≡◌, ℕ, suc, ◌+◌, ◌%◌, ◌^◌, ◌<◌, List, [], ◌∷◌, ◌++◌, length, None}
 use Rattle.std.proofs.Common.{Some, refl, sym, ap, ◌∙◌, subst, arith}
 use Rattle.job_types.specs.declared.outcome.JobDone.{JobDone}
@@ -51,10 +51,10 @@ use Rattle.parallel_dispatch.proofs.Ending.{run_ends, went_first, went_runs}
 use Rattle.parallel_dispatch.proofs.Events.{turn_led}
 use Rattle.parallel_dispatch.proofs.Turning.{runs_append}
 
--- ## The run of a loan's job, on the root's words
+-- ## The run of a returned loan's job, on the root's words
 
--- the job of a loan, which has come back, comes to the same end on the root's words, and leaves
--- them as the root has them then
+-- the job of a returned loan would come to the same end on the root's words, and leave them as the
+-- root now has them
 pub ends_on_root : (x : Exchange) (k : KeptSummaries) (code : Code) (s : State) (top : Top) (l : Lent) (store : StoreId)
     (seat : JobView) (run : Private) (mid : Top) → top.values ≡ s.store → IsLent x k s l
     → HasRun x code store l seat run → mid ≡ taken_back top seat.1 → RunEnds code l.start top.values run mid
@@ -73,7 +73,7 @@ ends_on_root x k code s top l store seat run mid values lent has mid_is =
           ∙ ap (λ (w : World). stored top.values w.trace) (sym has.means.world);
     }
 
--- ## The oldest that flies retires
+-- ## The oldest job in flight retires
 
 pub retired_led : (x : Exchange) (k : KeptSummaries) (code : Code) (workers : ℕ) (s : State) (books : Account)
     (top : Top) (l : Lent) (rest : List Lent) → Fly x k s books top (l ∷ rest)
@@ -94,7 +94,7 @@ retired_led x k code workers s books top l rest fly store seat run mid has mid_i
     (left ∙ λ i. retires x l.start (same i) (with_words books.state (e.words_are i))) count limit now values l refl
     made (made_is ∙ ap (λ (r : Private). r.made) e.run_is)
 
--- ## From move to move
+-- ## One move after the other
 
 module _ (x : Exchange) (k : KeptSummaries) (code : Code) (workers : ℕ) (first : State) (limit : ℕ) where
   abbrev Here : Account → Top → List Lent → ℕ → Type 0
@@ -168,7 +168,7 @@ module _ (x : Exchange) (k : KeptSummaries) (code : Code) (workers : ℕ) (first
       };
     }
 
-    -- none flies, and the run is over
+    -- no job is in flight, and the run is over
     pub reached_ended : (books : Account) (top : Top) (e : Ending) (steps : ℕ)
         → Some e ≡ ending_at books.limit books.state → Here books top [] steps
         → EndsAs x code first limit books.state top.values e steps
@@ -185,7 +185,7 @@ module _ (x : Exchange) (k : KeptSummaries) (code : Code) (workers : ℕ) (first
           made = subst (λ n. AllMake x code first n steps) (sym at_end) r.made;
         }
 
-    -- none flies, and the run may rest
+    -- no job is in flight, and the run may be handed back
     pub reached_rests : (books : Account) (top : Top) (steps : ℕ) → Here books top [] steps → (run : Standing)
         → run.books ≡ books → run.words ≡ top.values → IsOnTheWay x first limit run
     reached_rests books top steps r run books_are words_are =

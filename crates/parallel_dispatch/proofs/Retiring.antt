@@ -52,7 +52,7 @@ use Rattle.lone_job.proofs.Words.{free_stores}
 use Rattle.parallel_dispatch.proofs.Lending.{of_loan, of_start}
 use Rattle.parallel_dispatch.proofs.Told.{aside, lent_stays, same_over, same_own, same_trace}
 
--- what is left of a run that is over
+-- the outcome of a run that is over
 pub record Leaves (run : Private) (done : JobDone) : Type 0 where
   pub sends : done.sends ≡ run.own.sends
   pub chain : done.chain ≡ run.own.chain
@@ -66,16 +66,16 @@ module _ (x : Exchange) (k : KeptSummaries) (kept : IsExchange x) (checked : IsC
   abbrev done : JobDone
   done = done_by (job x a s.store)
 
-  -- the root once it has the loan back, with the touches of the job
+  -- the root after the loan was returned, with the job's touches
   abbrev pub back : Top
   back = taken_back top (record { lent = l; touches = trace_of x a l.base })
 
   all_fit : AllByRecursion (IsFitting x s) (a ∷ starts_of rest)
   all_fit = window_fits x s (a ∷ starts_of rest) fly.valid fly.ahead.window
 
-  -- ## The end of the job
+  -- ## The job's end
 
-  -- what the run leaves is what the job leaves in the single run
+  -- the outcome of the run is the job's outcome in the single run
   pub done_is : (code : Code) (store : StoreId) (seat : JobView) (run : Private) (left : JobDone)
       → HasRun x code store l seat run → Leaves run left → left ≡ done
   done_is code store seat run left has leaves =
@@ -86,8 +86,8 @@ module _ (x : Exchange) (k : KeptSummaries) (kept : IsExchange x) (checked : IsC
       let outcome = ap outcome_of (leaves.outcome ∙ ap (λ (r : Private). r.over) has.run_is ∙ has.means.over ∙ sym over) in
       λ i. record { sends = sends i; chain = chain i; outcome = outcome i }
 
-  -- how many instructions it made is told by the run on the words of the loan, which answer to the
-  -- job as those of the state do
+  -- its number of instructions is that of the run on the loan's words, which to the job are the
+  -- same as the words of the state
   pub makes : (code : Code) (store : StoreId) (seat : JobView) (run : Private) → HasRun x code store l seat run → JobMakes code s run.made
   makes code store seat run has =
       let same = fly.lent.0.same in
@@ -115,7 +115,7 @@ module _ (x : Exchange) (k : KeptSummaries) (kept : IsExchange x) (checked : IsC
       by (inl is) other = absurd (other (sym (ap (λ (m : Lent). m.number) is)))
       by (inr has) other = has
 
-  -- ## It may retire
+  -- ## The job may retire
 
   chains_same : books.state.chains ≡ s.chains
   chains_same = ap (λ (t : State). t.chains) fly.ahead.same
@@ -134,7 +134,7 @@ module _ (x : Exchange) (k : KeptSummaries) (kept : IsExchange x) (checked : IsC
       all_fit.0 (of_start (IsFitting x s) rest o all_fit.1 here) (of_start (PassBy k a) rest o fly.pass.0 here)
       books.state back.values)
 
-  -- ## It has retired
+  -- ## The job has retired
 
   turn_is : turn x s ≡ arrivals x (ended_as x a (job x a s.store) (begun s))
   turn_is = window_first x s a (starts_of rest) fly.ahead.window
@@ -159,7 +159,7 @@ module _ (x : Exchange) (k : KeptSummaries) (kept : IsExchange x) (checked : IsC
   within_then limit [] le = tt
   within_then limit (o ∷ os) le = (let one = turn_ended in omega (arith, le, one))
 
-  -- the single run was not over before it
+  -- the single run was not over before the job
   pub goes_before : ending_at books.limit s ≡ None
   goes_before = (let le = fly.within in goes_on books.limit s a (window_next x s fly.valid a (starts_of rest) fly.ahead.window) (omega (arith, le)))
 

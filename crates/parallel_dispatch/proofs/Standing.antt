@@ -1,4 +1,4 @@
--- From the first state of the run to its end.
+-- From the first state of a run to its end.
 use Rattle.std.proofs.Common.{◌≡◌, ℕ, zero, suc, ◌+◌, ◌<◌, false, List, [], ◌∷◌, length, Option}
 use Rattle.std.proofs.Common.{Some, None, refl, sym, ap, ◌∙◌, subst, arith}
 use Rattle.std.proofs.lemmas.Bool.{or_parts}
@@ -43,7 +43,7 @@ due_before : (lines : List Coming) (s : State) → NoneDue lines s → NoLineBef
 due_before [] s none = tt
 due_before (l ∷ rest) s none = (let past = (or_parts (nat_le l.after s.ended) (is_quiet s.waiting) none).0 in grind (arith, nat_tests, past))
 
--- what is due has arrived after each job, unless the last restart has come
+-- after each job no line is due that has not arrived, unless the run has stopped
 due_none : (x : Exchange) (t : State) → has_stopped (arrivals x t) ≡ false → NoneDue (arrivals x t).lines (arrivals x t)
 due_none x t going = arrivals_settle x t (ap (λ n. has_stopped (record t { restarts = n })) (sym (arrivals_keep x t).restarts) ∙ going)
 
@@ -84,7 +84,8 @@ module _ (x : Exchange) (k : KeptSummaries) (code : Code) (kept : IsExchange x) 
       subst (λ b. IsReached x k code workers first limit b top [] 0) (sym is) here
 
   module _ (first : State) (books : Account) (top : Top) where
-    -- none flies, and the run goes on: a job is next, and no line is due before it
+    -- if no job is in flight and the run is not over, there is a next job and no line is due before
+    -- it
     pub stand_next : (steps : ℕ) → ending_at books.limit books.state ≡ None
         → IsReached x k code workers first limit books top [] steps → (start : JobStart) × (upcoming books ≡ Some start)
     stand_next steps goes g =
@@ -92,7 +93,7 @@ module _ (x : Exchange) (k : KeptSummaries) (code : Code) (kept : IsExchange x) 
         let some = some_start books.state books.limit goes in
         (some.0, upcoming_is books none goes ∙ some.1)
 
-    -- so the window is not empty where none is next that may fly
+    -- so if no job may be issued, the window is not empty
     pub stand_some : (loans : List Lent) (steps : ℕ) → (loans ≡ [] → ending_at books.limit books.state ≡ None)
         → (loans ≡ [] → None ≡ upcoming books) → IsReached x k code workers first limit books top loans steps
         → 0 < length loans
@@ -110,7 +111,7 @@ module _ (x : Exchange) (k : KeptSummaries) (code : Code) (kept : IsExchange x) 
         (subst (λ (t : State). NoneDue t.lines t) (sym same) (settled_after x first g.retired going))
     stand_line (l ∷ rest) steps goes g is = cc
 
-    -- a summary is kept of each job
+    -- the kept summaries have one for the entry of each job
     pub next_summary : (loans : List Lent) (start : JobStart) (steps : ℕ)
         → IsReached x k code workers first limit books top loans steps → Some start ≡ upcoming books
         → HasSummary k start
@@ -123,6 +124,6 @@ module _ (x : Exchange) (k : KeptSummaries) (code : Code) (kept : IsExchange x) 
     all_summaries s [] lent = tt
     all_summaries s (l ∷ rest) lent = (slice_get_within k.summaries l.start.job.entry lent.0.summary lent.0.told, all_summaries s rest lent.1)
 
-    -- in the end the root has lent nothing
+    -- at the end the root has no loans
     pub none_lent : (steps : ℕ) → IsReached x k code workers first limit books top [] steps → top ≡ unlent top.values
     none_lent steps g = (let bare = bare_of x k (after x first g.retired) books top g.fly in λ i. record { values = top.values; loans = bare i })

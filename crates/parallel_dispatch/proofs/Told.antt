@@ -1,5 +1,5 @@
--- What the summaries that are kept tell of two jobs in one state, and of the later one where the
--- first has had its turn.
+-- What the kept summaries imply for two jobs in one state, and for the later one after the first
+-- one has retired.
 use Rattle.std.proofs.Common.{◌≡◌, ℕ, zero, suc, ◌+◌, true, List, [], ◌∷◌, ◌++◌, refl, sym, ap, ◌∙◌}
 use Rattle.std.proofs.Common.{subst}
 use Rattle.std.proofs.lemmas.Option.{same_Some}
@@ -45,7 +45,7 @@ use Rattle.parallel_dispatch.specs.Flying.{IsLent}
 use Rattle.parallel_dispatch.specs.Told.{AreTrue, IsSummaryOf, PassBy}
 use Rattle.job_types.proofs.ChainMaps.{chain_same}
 
--- two that pass by the tests pass by the summaries that are kept
+-- jobs that pass the tests pass by the kept summaries
 pub passes_of : (k : KeptSummaries) (a b : JobStart) → MayFollow k a b → PassBy k a b
 passes_of k a b of = record {
   passes = λ m n one other.
@@ -62,7 +62,7 @@ all_pass_of k start (a ∷ rest) all = (passes_of k a start all.0, all_pass_of k
 agree_then : (ts : List Touch) (r s t : List ℕ) → AgreeOn ts r s → AgreeOn ts s t → AgreeOn ts r t
 agree_then ts r s t p q = record { long = p.long ∙ q.long; same = λ w at. p.same w at ∙ q.same w at }
 
--- the job over the words of a loan is the job over these words
+-- on these words the job runs as on the words of its loan
 module _ (x : Exchange) (k : KeptSummaries) (s : State) (l : Lent) (lent : IsLent x k s l) where
   job_there : job x l.start s.store ≡ record (job x l.start l.base)
       { world = record (job x l.start l.base).world { store = stored s.store (trace_of x l.start l.base) } }
@@ -90,7 +90,7 @@ module _ (x : Exchange) (k : KeptSummaries) (kept : IsExchange x) (checked : IsC
     passes = pass.passes m n told_a told_b;
   }
 
-  -- a permit is apart from that of a loan, where the loan's job passes with the job of the permit
+  -- the permit does not conflict with that of the loan, if the two jobs pass the tests
   pub apart_from : (l : Lent) (n : Summary) (b : JobStart) (p : Permit) → IsLent x k s l → IsFitting x s l.start
       → IsFitting x s b → IsSummaryOf k b n → PassBy k l.start b
       → ((w : ℕ) → may_read p w ≡ true → MayRead x n b s.chains w) → ((w : ℕ) → may_write p w ≡ true → MayWrite x n b s.chains w) → Apart l.permit p
@@ -103,7 +103,7 @@ module _ (x : Exchange) (k : KeptSummaries) (kept : IsExchange x) (checked : IsC
             (λ read. reads_apart x checked.facts s lent.summary n l.start b h w (lent.reads w read) (writes w written)),
       )
 
-  -- the job of one loan has its turn: what that leaves to the loan of a later one
+  -- the job of one loan retires: what that means for the loan of a later job
   module _ (true_of : AreTrue x k) (l later : Lent) (first : IsLent x k s l) (lent : IsLent x k s later)
       (fits_l : IsFitting x s l.start) (fits_later : IsFitting x s later.start)
       (pass : PassBy k l.start later.start) where
@@ -179,8 +179,7 @@ module _ (x : Exchange) (k : KeptSummaries) (kept : IsExchange x) (checked : IsC
         (release_apart x checked.facts s first.summary lent.summary a b h (left.fault (subst IsFaulted (sym how) tt))
         done.chain over w left.records left.held reads)
 
-    -- its retirement stores to no word of the later one's permit, whatever the books and the words
-    -- are
+    -- for all books and words, its retirement stores to no word of the later job's permit
     pub aside : (t : State) (over : List ℕ) (w : ℕ) → may_read later.permit w ≡ true → NoStore w (retired_world x a done t over).trace
     aside t over w may = aside_by a.job.forlopp done.outcome
         (all_delivered a.job.forlopp done.sends (record t { ended = t.ended + 1 })) over w refl refl (lent.reads w may)

@@ -1,4 +1,4 @@
--- What the summaries that are kept tell of jobs is true, where they are of the exchange.
+-- The kept summaries of an exchange are sound for its jobs.
 use Rattle.exchange_model.specs.declared.exchange.Exchange.{Exchange}
 use Rattle.exchange_model.specs.Kept.{IsExchange}
 use Rattle.checked.specs.Kept.{IsChecked, KeptSummaries}

@@ -1,5 +1,5 @@
--- Lists of events, one list after the other; and the events by which the oldest job comes to its
--- end and retires.
+-- Concatenation of lists of events; and the events by which the oldest job runs to its end and
+-- retires.
 use Rattle.std.proofs.Common.{◌≡◌, ℕ, suc, ◌+◌, ◌%◌, ◌^◌, List, [], ◌∷◌, ◌++◌, Some, refl, sym, ap}
 use Rattle.std.proofs.Common.{◌∙◌, subst, slice_get, arith}
 use Rattle.std.proofs.lemmas.Option.{get_or_from_slice_get}
@@ -19,21 +19,21 @@ use Rattle.interleave_core.specs.Runs.{Allows, Runs, Setting, core_after}
 use Rattle.parallel_dispatch.specs.Turning.{at_machine, so_many_steps, turn_of}
 use Rattle.parallel_dispatch.proofs.Counting.{step_made}
 
--- ## One list after the other
+-- ## Concatenation of lists
 
 pub runs_append : (k : Setting) (es fs : List CoreEvent) (c m d : Core) → Runs k es c m → Runs k fs m d → Runs k (es ++ fs) c d
 unfolding Runs
 runs_append k [] fs c m d is more = subst (λ (o : Core). Runs k fs o d) is more
 runs_append k (e ∷ es) fs c m d runs more = (runs.0, runs_append k es fs (core_after k c e runs.0) m d runs.1 more)
 
--- one event alone
+-- a single event
 pub runs_one : (k : Setting) (c : Core) (e : CoreEvent) (can : Allows k c e) → Runs k (e ∷ []) c (core_after k c e can)
 unfolding Runs
 runs_one k c e can = (can, refl)
 
 -- ## Steps of the oldest job
 
--- the core after the instruction
+-- the state of the core after the instruction
 stepped_core : (k : Setting) (c : Core) (start : JobStart) (younger : List WindowJob) (op : Op) (m : Machine) → slice_get k.code.ops m.run.pc ≡ Some op
     → steps k.code 0 (record { start = start; run = m.run }) (at_machine c start younger m) ≡ at_machine c start younger (machine_step op m)
 stepped_core k c start younger op m at =
@@ -41,8 +41,8 @@ stepped_core k c start younger op m at =
     ap (λ (o : Op). at_machine c start younger (machine_step o (record { run = m.run; world = untouched m.world.store }))) is
     ∙ ap (λ ws. at_machine c start younger (record { run = (machine_step op m).run; world = untouched ws })) (step_store (reach op m.run) m.world)
 
--- the machine goes to its end by so many events, whatever core the job is the oldest of, and counts
--- as many instructions more
+-- this many Step events run the machine to its end, in every state of the core in which the job is
+-- the oldest, and count as many instructions
 pub record GoesBySteps (k : Setting) (m end : Machine) : Type 0 where
   pub count : ℕ
   pub made : (n : ℕ) → m.run.made ≡ n % 2 ^ 64 → end.run.made ≡ (n + count) % 2 ^ 64
@@ -68,11 +68,11 @@ goes_by_steps k m end (by_op op running at allowed more) =
       );
     }
 
--- ## The oldest job has its turn
+-- ## The oldest job runs to its end and retires
 
--- from a core of these words in which the oldest job stands at this start, these events lead to the
--- core in which it has retired, which had come to this end, with as many instructions as are among
--- them
+-- from every state of the core with these words in which the oldest job is at this start, these
+-- events lead to the state in which it has run to this end and retired; `count` of them are
+-- instructions
 pub record HasTurn (k : Setting) (start : JobStart) (words : List ℕ) (end : Machine) : Type 0 where
   pub count : ℕ
   pub made : end.run.made ≡ count % 2 ^ 64

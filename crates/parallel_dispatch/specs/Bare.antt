@@ -1,5 +1,5 @@
--- The permit of a trace: the words that it loads and those that it stores, each one_word. It stands
--- in proofs one_word.
+-- The permit of a trace: exactly the words that it loads and those that it stores, each as a span
+-- of one word. Only proofs use it.
 use Rattle.std.specs.Prelude.{List, [], ◌∷◌}
 use Rattle.job_types.specs.declared.touch.Touch.{Touch}
 use Rattle.job_types.specs.declared.touch.Touch.TheVariants.{Load, Store}

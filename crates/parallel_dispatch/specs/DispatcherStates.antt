@@ -1,4 +1,4 @@
--- What contracts see of the dispatcher's state, and what its type keeps.
+-- The contracts' view of the dispatcher's state, and the invariant of its type.
 use Rattle.std.specs.Prelude.{◌≡◌, ℕ, ◌<◌, [], Option, Some, None, MatchOption}
 use Rattle.std.specs.FinMap as map
 use Rattle.job_types.specs.Forlopps.{none_dead}
@@ -16,17 +16,16 @@ use Rattle.parallel_dispatch.specs.Events.{IsReached}
 use Rattle.parallel_dispatch.specs.Moves.{AreCounted}
 use Rattle.parallel_dispatch.specs.Windows.{View}
 
--- the books, the root of the store, the jobs that fly, and how many instructions the runs of those
--- that retired made
+-- the books, the root of the store, the jobs in flight, and the number of instructions of the jobs
+-- that have retired
 pub record DispatcherView : Type 0 where
   pub books : Account
   pub root : RootView
   pub window : View
   pub steps : ℕ
 
--- what the type of the dispatcher's state keeps: from the first state events lead, each as it is
--- allowed, to the state of the core that books, root and loans are, in which each loaned job stands
--- at its start
+-- the invariant of the dispatcher's type: books, root and loans show a state of the core of events,
+-- with each lent job at its start, that allowed events reach from the first state
 pub record IsDispatcherState (x : Exchange) (k : KeptSummaries) (code : Code) (store : StoreId)
     (workers : ℕ) (first : State) (limit : ℕ) (books : Account) (root : RootView) (window : View)
     (steps : ℕ) : Type 0 where
@@ -36,16 +35,16 @@ pub record IsDispatcherState (x : Exchange) (k : KeptSummaries) (code : Code) (s
   pub some : 0 < workers
   pub counted : AreCounted books window
 
--- the run is not over where none flies
+-- the run is not over if no job is in flight
 abbrev pub GoesOn : Account → View → Type 0
 GoesOn books w = w.loans ≡ [] → ending_at books.limit books.state ≡ None
 
--- how the run ends, if none flies and it does
+-- how the run ends, if no job is in flight and it is over
 abbrev pub TellsEnd : Account → View → Option Ending → Type 0
 TellsEnd books w ended = MatchOption ended (GoesOn books w)
     (λ e. (w.loans ≡ []) × (Some (ending_of e) ≡ ending_at books.limit books.state))
 
--- what stands where no course is named
+-- the value where no course is given
 abbrev pub no_kept : KeptSummaries
 no_kept = record { summaries = [] }
 

@@ -1,4 +1,4 @@
--- The window of the dispatcher as a state of the core of events.
+-- The dispatcher's window as a state of the core of events.
 use Rattle.std.specs.Prelude.{◌≡◌, ℕ, ◌+◌, ◌%◌, ◌^◌, List, [], ◌∷◌, map}
 use Rattle.machine_code.specs.Coded.{Code}
 use Rattle.exchange_model.specs.declared.exchange.Exchange.{Exchange}
@@ -24,28 +24,29 @@ abbrev pub standing : Code → List Lent → List WindowJob
 standing code loans =
     map (λ (l : Lent). record { start = l.start; run = started code l.start }) loans
 
--- a job is issued, makes its instructions to its end, and retires
+-- a job is issued, executes its instructions to the end, and retires
 abbrev pub whole_turn : ℕ → ℕ → List CoreEvent
 whole_turn count job = Issue ∷ turn_of count job
 
--- what books, root and loans show of the core after so many retirements: the words are the root's
--- values, and each job that flies stands at its start
+-- the state of the core of events that books, root and loans show after `retired` retirements: the
+-- words are the root's values, and each job in flight is at its start
 abbrev pub shown : Code → Account → Top → List Lent → ℕ → Core
 shown code books top loans retired = core_of books top.values (standing code loans) retired
 
--- the core before the first event: what was due in this state has arrived
+-- the state of the core of events before the first event: the arrivals that were due have taken
+-- place
 abbrev pub first_core : Exchange → State → ℕ → Core
 first_core x first limit =
     record { state = arrivals x first; limit = limit; window = []; retired = 0 }
 
--- the next job is issued, whatever number of jobs retired before
+-- the next job is issued, however many have retired before
 abbrev pub IsIssued : Setting → Account → Top → List Lent → Account → Top → List Lent → Type 0
 IsIssued k books top loans next now left = (retired : ℕ)
     → Runs k (Issue ∷ []) (shown k.code books top loans retired)
     (shown k.code next now left retired)
 
--- these events lead from what is shown to what is shown after one retirement more, whatever number
--- of jobs retired before, and so many of them are instructions, modulo 2^64
+-- these events lead from the state shown before to the one shown after one more retirement, however
+-- many jobs have retired before; `made` of them are instructions, modulo 2^64
 pub record IsLed (k : Setting) (events : ℕ → ℕ → List CoreEvent) (books : Account) (top : Top)
     (loans : List Lent) (next : Account) (now : Top) (left : List Lent) (made : ℕ) : Type 0 where
   pub count : ℕ
@@ -53,10 +54,9 @@ pub record IsLed (k : Setting) (events : ℕ → ℕ → List CoreEvent) (books 
   pub runs : (retired : ℕ) → Runs k (events count (retired + 1))
       (shown k.code books top loans retired) (shown k.code next now left (retired + 1))
 
--- what the type of the dispatcher's window keeps: its books, root values and loans are a state of
--- the core, in which each loaned job stands at its start, to which events lead from this first
--- state, each as it is allowed, so many of them instructions, modulo 2^64; and beside it what the
--- rule of the words wants of the loans
+-- the invariant of the dispatcher's window: books, root values and loans show a state of the core
+-- of events, with each lent job at its start, that allowed events reach from this first state
+-- (`steps` of them instructions, modulo 2^64); and the loans satisfy the rule of docs/THREADS.md
 pub record IsReached (x : Exchange) (k : KeptSummaries) (code : Code) (workers : ℕ) (first : State)
     (limit : ℕ) (books : Account) (top : Top) (loans : List Lent) (steps : ℕ) : Type 0 where
   pub retired : ℕ

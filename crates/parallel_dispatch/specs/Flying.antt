@@ -1,5 +1,5 @@
--- Jobs that fly: they were lent their words and have not retired. They stand beside a state of the
--- single run, the one in which the oldest of them is next, and are a window of it.
+-- Jobs in flight: they have a loan and have not retired. They form a window of the single run, at
+-- the state in which the oldest of them is next.
 use Rattle.std.specs.Prelude.{◌≡◌, ℕ, ◌+◌, ◌≤◌, true, List, [], ◌∷◌, length, map}
 use Rattle.std.specs.List.{AllByRecursion}
 use Rattle.job_types.specs.declared.job.JobStart.{JobStart}
@@ -18,12 +18,12 @@ use Rattle.shared_store.specs.declared.view.Top.{Top}
 use Rattle.shared_store.specs.Loans.{Has}
 use Rattle.parallel_dispatch.specs.Told.{IsSummaryOf, PassBy}
 
--- what the jobs of these loans start with
+-- the starts of the jobs of these loans
 abbrev pub starts_of : List Lent → List JobStart
 starts_of loans = map (λ (l : Lent). l.start) loans
 
 -- the loan of a job in this state: the words that the job touches are still as they were lent, and
--- the permit lets touch no more than the summary of its entry lets the job touch in this state
+-- the permit permits no more than the summary of the job's entry does in this state
 pub record IsLent (x : Exchange) (k : KeptSummaries) (s : State) (l : Lent) : Type 0 where
   pub summary : Summary
   pub told : IsSummaryOf k l.start summary
@@ -31,18 +31,18 @@ pub record IsLent (x : Exchange) (k : KeptSummaries) (s : State) (l : Lent) : Ty
   pub reads : (w : ℕ) → may_read l.permit w ≡ true → MayRead x summary l.start s.chains w
   pub writes : (w : ℕ) → may_write l.permit w ≡ true → MayWrite x summary l.start s.chains w
 
--- each older one passes with each younger one, the oldest first
+-- each older job passes the tests with each younger one; the oldest comes first
 abbrev pub AllPass : KeptSummaries → List JobStart → Type 0
 AllPass k [] = Unit {0}
 AllPass k (older ∷ rest) = AllByRecursion (PassBy k older) rest × AllPass k rest
 
--- those that have ended and those that fly are within the limit; where none flies nothing is asked
+-- the ended jobs and those in flight are within the limit; holds trivially if none is in flight
 abbrev pub AreWithin : ℕ → ℕ → List Lent → Type 0
 AreWithin limit ended [] = Unit {0}
 AreWithin limit ended (l ∷ rest) = ended + length (l ∷ rest) ≤ limit
 
--- the jobs of these loans, the oldest first, have begun in the books, and their words are lent by
--- the root: books and root are those of this state of the single run
+-- the jobs of these loans, the oldest first, have begun in the books, and the root has lent their
+-- words: books and root are those of this state of the single run
 pub record Fly (x : Exchange) (k : KeptSummaries) (s : State) (books : Account) (top : Top)
     (loans : List Lent) : Type 0 where
   pub valid : IsValid x s

@@ -1,4 +1,4 @@
--- What the dispatcher's moves ask for, and what they leave.
+-- Preconditions and postconditions of the dispatcher's moves.
 use Rattle.std.specs.Prelude.{◌≡◌, ℕ, ◌+◌, ◌*◌, ◌-◌, ◌<◌, ◌≤◌, List, [], length, Some, None}
 use Rattle.std.specs.List.{AllByRecursion}
 use Rattle.plex_limits.specs.declared.limits.TheConstants.{MOST_JOBS}
@@ -35,16 +35,15 @@ use Rattle.parallel_dispatch.specs.Made.{JobMakes}
 use Rattle.parallel_dispatch.specs.Told.{AreTrue}
 use Rattle.parallel_dispatch.specs.Windows.{View}
 
--- the code and the summaries are of the exchange, and what they tell of its jobs is true
+-- code and summaries are those of the exchange, and the summaries are sound for its jobs
 pub record AreOf (x : Exchange) (code : Code) (k : KeptSummaries) : Type 0 where
   pub exchange : IsExchange x
   pub faithful : Faithful x code
   pub checked : IsChecked x k
   pub true_of : AreTrue x k
 
--- the run is of this exchange, this code and these summaries, of which so many jobs may run at
--- once; its jobs are run with the first two and this store, and their tickets are of this book; and
--- what has these names belongs together
+-- context, means and book are those of this exchange, code, store and ticket book, with these
+-- summaries and this limit of jobs at a time; and these belong together
 pub record Suits (x : Exchange) (o : Code) (s : StoreId) (b : BookId) (k : KeptSummaries) (w : ℕ)
     (c : RunContext) (m : Means) (book : BookId) : Type 0 where
   pub exchange : c.exchange.now ≡ x
@@ -57,75 +56,77 @@ pub record Suits (x : Exchange) (o : Code) (s : StoreId) (b : BookId) (k : KeptS
   pub laid : IsLayout x.blocks c.layout.now
   pub set : AreOf x o k
 
--- a summary is kept of the entry of the start
+-- the kept summaries have one for the job's entry
 abbrev pub HasSummary : KeptSummaries → JobStart → Type 0
 HasSummary k start = start.job.entry < length k.summaries
 
--- a job may follow each of these
+-- a job may run beside each of these older ones
 abbrev pub FollowsAll : KeptSummaries → List JobStart → JobStart → Type 0
 FollowsAll k olders later = AllByRecursion (λ (older : JobStart). MayFollow k older later) olders
 
--- the next job of the books may fly beside these: it passes with each of them, and they retire
--- before the next line comes
+-- the next job of the books may be issued beside those in flight: it passes the tests with each of
+-- them, and all of them and the job retire before the next line is due
 pub record MayFly (k : KeptSummaries) (books : Account) (w : View) (start : JobStart) : Type 0 where
   pub next : Some start ≡ upcoming books
   pub room : length w.loans < w.room
   pub line : NoLineBefore (books.state.ended + length w.loans + 1) books.state.lines
   pub pass : FollowsAll k (starts_of w.loans) start
 
--- some job is next that may
+-- there is a next job, and it may be issued
 pub record MayIssue (k : KeptSummaries) (books : Account) (w : View) : Type 0 where
   pub start : JobStart
   pub may : MayFly k books w start
 
--- the next job of the books may run on the root's own words: none flies, and it retires before the
--- next line comes
+-- the next job of the books may run on the root's own words: no job is in flight, and it retires
+-- before the next line is due
 pub record MayRunAlone (books : Account) (w : View) : Type 0 where
   pub nobody : w.loans ≡ []
   pub room : 0 < w.room
   pub line : NoLineBefore (books.state.ended + 1) books.state.lines
 
--- the move may be made: a job that is next runs alone or flies, and the oldest retires where one
--- flies or none is next
+-- the move is allowed: to run alone or be issued, the next job must be one that may; the oldest may
+-- retire if one is in flight or there is no next job
 abbrev pub MayMove : KeptSummaries → Account → View → Move → Type 0
 MayMove k books w RunAlone = MayRunAlone books w
 MayMove k books w (Issue entry) = MayIssue k books w
 MayMove k books w Retire = w.loans ≡ [] → None ≡ upcoming books
 
--- books, root and window stand beside some state of the single run
+-- books, root and window belong to some state of the single run
 abbrev pub Flying : Exchange → KeptSummaries → Account → RootView → View → Type 0
 Flying x k books root w = (s : State) × Fly x k s books root.1 w.loans
 
--- how many jobs the limit leaves to begin, twice, and those that fly
+-- a measure that each move decreases: twice the jobs that the limit still allows to begin, plus
+-- those in flight
 abbrev pub to_do : Account → ℕ
 to_do b = 2 * (b.limit - (b.state.ended + b.running)) + b.running
 
--- no more jobs have flown than have ended or run, and the limit is not above that of all runs
+-- no more jobs have been in flight than have ended or are running, and the limit is at most that of
+-- all runs
 pub record AreCounted (books : Account) (w : View) : Type 0 where
   pub flown : w.flown ≤ books.state.ended + books.running
   pub limited : books.limit ≤ MOST_JOBS
 
--- they do so with a root of this store, and no more jobs are counted than there are
+-- books, root and window belong to a state of the single run, with a root of this store, and the
+-- counts are within bounds
 pub record StandBeside (x : Exchange) (k : KeptSummaries) (store : StoreId) (books : Account)
     (root : RootView) (w : View) : Type 0 where
   pub home : root.0 ≡ store
   pub counted : AreCounted books w
   pub flying : Flying x k books root w
 
--- one more job flies: beside whatever state books, root and window stood, they stand now, and an
--- event of the core was made
+-- one more job is in flight: books, root and window belong to the same state as before, by one
+-- event
 pub record HasIssued (x : Exchange) (k : KeptSummaries) (code : Code) (books : Account) (top : Top)
     (w : View) (next : Account) (now : Top) (v : View) : Type 0 where
   pub fly : (s : State) → Fly x k s books top w.loans → Fly x k s next now v.loans
   pub event : IsIssued (setting x code k w.room) books top w.loans next now v.loans
 
--- the limit is as it was, no more jobs are counted than there are, and fewer are to do
+-- the limit is unchanged, the counts are within bounds, and the measure is smaller
 abbrev pub CountsOne : Account → Account → View → Type 0
 CountsOne old new w = (new.limit ≡ old.limit) × AreCounted new w × (to_do new < to_do old)
 
--- the next job has had its turn by these events: beside whatever state books, root and window
--- stood, what it left stands beside the one after it; it is the job whose run made so many
--- instructions
+-- the next job has run and retired by these events: if books, root and window belonged to a state,
+-- what is left belongs to the next one; the job executed this many instructions
 pub record HasTurned (x : Exchange) (k : KeptSummaries) (code : Code) (store : StoreId)
     (events : ℕ → ℕ → List CoreEvent) (books : Account) (top : Top) (w : View) (next : Account)
     (left : Retired) (v : View) : Type 0 where
@@ -139,19 +140,19 @@ pub record HasTurned (x : Exchange) (k : KeptSummaries) (code : Code) (store : S
   pub counted : AreCounted next v
   pub fewer : to_do next < to_do books
 
--- what is left where memory was refused: the root is that of the store, and has lent to no job but
--- those that fly
+-- what is left when out of memory: the root is that of the store, and all its loans are those of
+-- the jobs in flight
 pub record IsLeft (store : StoreId) (root : RootView) (loans : List Lent) : Type 0 where
   pub home : root.0 ≡ store
   pub listed : (l : Lent) → Has root.1.loans l → Has loans l
 
--- the root is that of the store, and has lent nothing: every job to which it lent its words has
--- come to its end and given them back
+-- the root is that of the store and has no loans: each job with a loan has ended and returned it
 pub record IsBare (store : StoreId) (root : RootView) : Type 0 where
   pub home : root.0 ≡ store
   pub bare : root.1.loans ≡ []
 
--- no ticket was written, and books and root, which may go on, stand for this state and this limit
+-- no ticket was written; books and root, from which a run may start, are those of this state and
+-- limit
 pub record MayBegin (x : Exchange) (store : StoreId) (book : BookId) (first : State) (limit : ℕ)
     (pen : PenView) (run : StoredRun) : Type 0 where
   pub start : MayStart x store run

@@ -1,5 +1,4 @@
--- The events by which the oldest job of a window, which stands at its start, comes to its end and
--- retires.
+-- The events by which the oldest job of a window runs from its start to its end and retires.
 use Rattle.std.specs.Prelude.{ℕ, zero, suc, List, [], ◌∷◌, ◌++◌}
 use Rattle.job_types.specs.declared.job.JobStart.{JobStart}
 use Rattle.machine_meaning.specs.Machine.{Machine}
@@ -8,12 +7,12 @@ use Rattle.interleave_core.specs.declared.event.CoreEvent.TheVariants.{Issue, St
 use Rattle.interleave_core.specs.declared.window.WindowJob.{WindowJob}
 use Rattle.interleave_core.specs.Cores.{Core}
 
--- so many instructions of the job of this number, one after the other
+-- this many instructions of this job, one after the other
 abbrev pub so_many_steps : ℕ → ℕ → List CoreEvent
 so_many_steps zero job = []
 so_many_steps (suc n) job = Step job ∷ so_many_steps n job
 
--- they are made, and the job retires
+-- these instructions, and then the job's retirement
 abbrev pub turn_of : ℕ → ℕ → List CoreEvent
 turn_of n job = so_many_steps n job ++ Retire ∷ []
 
@@ -24,7 +23,8 @@ steps_in (Step job ∷ events) = suc (steps_in events)
 steps_in (Issue ∷ events) = steps_in events
 steps_in (Retire ∷ events) = steps_in events
 
--- the core in which the oldest job has come so far, and the words with it
+-- the state of the core of events in which the oldest job has come to this machine state, with its
+-- words
 abbrev pub at_machine : Core → JobStart → List WindowJob → Machine → Core
 at_machine c start younger m = record c {
   state = record c.state { store = m.world.store };

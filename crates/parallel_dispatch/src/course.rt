@@ -1,9 +1,9 @@
-// What stays as it is while one dispatch lasts, and contracts alone see.
+// Constants of one dispatch, which only contracts see.
 use std::marker::Brand;
 use worker_pool::Naming;
 
-/// Names besides what is kept of the certificate, how many jobs may run at once, the state in which
-/// the run begins, before what is due arrives, and after how many jobs it ends.
+/// Adds to `Naming` the kept summaries, the most jobs at a time, the state in which the run begins
+/// (before the arrivals that are due), and the limit of jobs.
 pub(crate) trait Course: Naming {
     ghost use Rattle.std.specs.Prelude.{ℕ};
     ghost use Rattle.checked.specs.Kept.{KeptSummaries};

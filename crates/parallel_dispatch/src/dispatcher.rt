@@ -1,4 +1,4 @@
-// The public call.
+// The public call of the dispatcher.
 ghost use Rattle.std.specs.Prelude.{◌≡◌, false, IfOk, IfErr};
 ghost use Rattle.lone_job.specs.Contexts.{IsContext};
 ghost use Rattle.parallel_dispatch.specs.Ends.{IsDispatched, IsOver, MayStart};
@@ -18,7 +18,8 @@ use std::thread::Threads;
 use ticket_book::TicketBook;
 use worker_pool::Means;
 
-/// The books of a run, the root of the store of its words, and whether it may rest before its end.
+/// The books of a run, the root of the store with its words, and whether the run may be handed back
+/// before its end.
 #[derive(Drop)]
 pub struct StoredRun {
     pub books: Books,
@@ -26,8 +27,8 @@ pub struct StoredRun {
     pub may_rest: bool,
 }
 
-/// The end of a run: the books, the stored words, one for each cell, how it ended, and the number
-/// of instructions that the runs of its jobs made, modulo 2^64.
+/// The end of a run: the books, the stored words (one for each cell), how it ended, and the number
+/// of instructions that its jobs executed, modulo 2^64.
 #[derive(Drop)]
 pub struct Ended {
     pub books: Books,
@@ -36,8 +37,8 @@ pub struct Ended {
     pub steps: u64,
 }
 
-/// A run that rests: its books and the stored words, one for each cell, and the number of
-/// instructions that the runs of its jobs made, modulo 2^64.
+/// A run that is handed back before its end: its books and stored words (one for each cell), and
+/// the number of instructions that its jobs executed, modulo 2^64.
 #[derive(Drop)]
 pub struct Rested {
     pub there: Standing,
@@ -47,22 +48,26 @@ pub struct Rested {
 /// How far a run has come.
 #[derive(Drop)]
 pub enum Dispatched {
-    /// To its end.
+    /// It is at its end.
     Over(Ended),
-    /// To a job behind which it rests: hardly any job of late could run beside another one.
+    /// It was handed back after some job, because hardly any recent job could run beside another
+    /// one.
     Rests(Rested),
 }
 
-/// Runs the jobs of an exchange to the end of the single run, with so many at once at most as the
-/// context says, each job alone or beside those with which it passes all tests, and calls the gate
-/// on the thread of each. What comes out is what the single run comes to, whatever the threads do:
-/// its books, its words, how it ended, and how many instructions its jobs made. A run that may rest
-/// comes back before its end, on the way of the single run, where hardly any job has company, since
-/// its jobs take less on plain words. No job may run in the books, the root must be that of the
-/// store and have lent nothing, and books and root must stand for a valid state. Memory is the only
-/// reason for an error. No job runs any more then, and the root of the store comes back, which has
-/// lent nothing: each job to which words were lent has come to its end, and its seat was taken
-/// back.
+/// Runs the jobs of an exchange to the end of the single run, at most as many at a time as the
+/// context says: each alone, or beside those with which it passes all conflict tests. The gate is
+/// called on the thread of each job.
+///
+/// For every interleaving of the threads, the result is that of the single run: its books, its
+/// words, how it ended, and how many instructions its jobs executed. If `may_rest`, the run is
+/// handed back in an intermediate state of the single run once hardly any job has others running
+/// beside it, since jobs take less time on words that are not shared.
+///
+/// No job may be running in the books; the root must be that of the store, without loans; and books
+/// and root must stand for a valid state. The only error is out of memory. Then no job is running
+/// any more, and the store's root is returned without loans: each job with a loan has ended, and
+/// its seat was taken back.
 pub fn dispatch<R: Threads + Wait + Sync, G: Gate + Sync>(
     host: &Host<'_, R, G>,
     context: &RunContext<'_>,

@@ -1,5 +1,5 @@
-// The dispatcher's state: its books, the root of the store and the jobs that fly, which are a state
-// of the core of events.
+// The dispatcher's state: the books, the root of the store and the jobs in flight, which show a
+// state of the core of events.
 ghost use Rattle.std.specs.Prelude.{◌≡◌, ◌<◌, [], length, Some, IsTrue, IfOk, IfErr};
 ghost use Rattle.shared_store.specs.Loans.{unlent};
 ghost use Rattle.run_books.specs.Events.{ending_of};
@@ -28,9 +28,9 @@ use std::sync::Wait;
 use std::thread::{Scope, Threads};
 use ticket_book::Pen;
 
-/// The books, the root of the store, and the jobs that fly. They are a state of the core of events,
-/// in which each job that flies stands at its start, and events lead to it from the state in which
-/// the run began. It cannot be dropped, since no job that flies may be.
+/// The books, the root of the store, and the jobs in flight. They show a state of the core of
+/// events, with each job in flight at its start, that events reach from the state in which the run
+/// began. It cannot be dropped, since a job in flight must be finished.
 pub(crate) struct DispatcherState<B: Course> {
     books: Box<Books>,
     root: RootSeat,
@@ -59,7 +59,8 @@ impl<B: Course> Model for DispatcherState<B> {
 }
 
 impl<B: Course + Send + Sync> DispatcherState<B> {
-    /// Before the first job: what is due arrives. The root is given back where memory is refused.
+    /// The state before the first job; arrivals that are due take place. Out of memory is an error
+    /// that returns the root.
     pub fn open<R, G>(
         setup: &ThreadSetup<'_, B, R, G>,
         pen: Pen,
@@ -92,7 +93,7 @@ impl<B: Course + Send + Sync> DispatcherState<B> {
         })
     }
 
-    /// How the run ends, if none flies and it does.
+    /// How the run ends, if no job is in flight and it is over.
     pub fn ending(&self) -> Option<Ending>
         ensures { TellsEnd self.now.books self.now.window result }
     {
@@ -102,16 +103,16 @@ impl<B: Course + Send + Sync> DispatcherState<B> {
         None
     }
 
-    /// Whether no job flies.
+    /// Whether no job is in flight.
     pub fn is_idle(&self) -> bool
         ensures { IsTrue result → self.now.window.loans ≡ [] }
     {
         self.window.len() == 0
     }
 
-    /// The next move of a run that is not over, once the workers are started that are wanted for
-    /// it: the next job runs alone to its end and retires, or it flies, or the oldest that flies
-    /// retires. The root and the window are given back where memory is refused.
+    /// Makes the next move of a run that is not over, after starting the workers wanted for it: the
+    /// next job runs alone and retires, or it is issued, or the oldest one in flight retires. Out
+    /// of memory is an error that returns root and window.
     pub fn make_move<'s, 'e: 's, R: Threads + Wait + Sync, G: Gate + Sync>(
         self,
         scope: &'s Scope<'s, &'e ()>,
@@ -174,8 +175,8 @@ impl<B: Course + Send + Sync> DispatcherState<B> {
         }
     }
 
-    /// The end of a run that is over, where none flies. The root is given back where memory is
-    /// refused.
+    /// The end of a run that is over, with no job in flight. Out of memory is an error that returns
+    /// the root.
     pub fn finish<R, G>(
         self,
         setup: &ThreadSetup<'_, B, R, G>,
@@ -204,7 +205,7 @@ impl<B: Course + Send + Sync> DispatcherState<B> {
         }
     }
 
-    /// Where a run rests, in which none flies. The root is given back where memory is refused.
+    /// Hands back a run with no job in flight. Out of memory is an error that returns the root.
     pub fn rest<R, G>(self, setup: &ThreadSetup<'_, B, R, G>) -> Result<Rested, RootSeat>
         requires suits { Suits B.exchange B.code B.store B.book B.kept B.workers
             setup.now.context setup.now.means setup.now.book.now }
@@ -237,7 +238,7 @@ impl<B: Course + Send + Sync> DispatcherState<B> {
     }
 }
 
-/// The words of a store, of which this is the root, that has lent nothing.
+/// The words of the store, read through its root, which has no loans.
 fn words_of(
     alloc: Global,
     store: &SharedStore,

@@ -1,4 +1,4 @@
-// Which workers are started, and when the dispatcher helps them.
+// When workers are started, and when the dispatcher helps them.
 ghost use Rattle.std.specs.Prelude.{◌≡◌};
 ghost use Rattle.worker_pool.specs.Ways.{AreMeans};
 
@@ -11,8 +11,8 @@ use std::sync::Wait;
 use std::thread::{Scope, Threads};
 use worker_pool::{Naming, start_workers};
 
-/// Runs a job that waits for a thread, where enough do, each worker has one, and the oldest that
-/// flies is not in hand.
+/// Runs one of the queued jobs on the dispatcher's thread, if enough are queued, every worker is
+/// busy and the oldest in flight is not in hand.
 pub(crate) fn relieve<B: Naming, R: Wait, G: Gate>(
     setup: &ThreadSetup<'_, B, R, G>,
     pace: &Pace,
@@ -30,8 +30,8 @@ pub(crate) fn relieve<B: Naming, R: Wait, G: Gate>(
     }
 }
 
-/// How the next job flies, which is of this entry. Where it is brought to the workers, it and the
-/// oldest have company, and as many are started as are wanted then.
+/// How the next job, of this entry, is to run. If it goes to the workers, it and the oldest one
+/// count as having company, and the workers wanted for that are started.
 pub(crate) fn way_for<
     's,
     'e: 's,
@@ -65,8 +65,8 @@ pub(crate) fn way_for<
     way
 }
 
-/// Starts the workers that are wanted while the dispatcher waits for the oldest that flies, or runs
-/// it: one more where a job waits.
+/// Starts the workers that are wanted while the dispatcher waits for the oldest job in flight or
+/// runs it: one more if a job is queued.
 pub(crate) fn hire_meanwhile<
     's,
     'e: 's,

@@ -1,12 +1,12 @@
-// The dispatcher: the jobs of an exchange run at once where the analysis lets them, and it comes to
-// what the single run comes to.
+// The dispatcher: runs the jobs of an exchange in parallel where the analysis permits, with the
+// result of the single run.
 //
-// What goes in: threads, memory and a gate; what the run is of, an exchange with its layout, its
-// code and what is kept of a certificate, and how many jobs may run at once; the shared words; and
-// books in which no job runs, with the words' root. What comes out: the books and the words at the
-// end of the single run, how it ended, and how many instructions its jobs made, whatever the
-// threads do meanwhile. Short jobs run on the root's own words, one after the other, with no loan.
-// It knows no instruction, and nothing of how threads find their jobs.
+// In: threads, memory and a gate; the context (an exchange with its layout, its code and the
+// summaries kept of a certificate, and the most jobs at a time); the shared words; and books in
+// which no job is running, with the words' root. Out: for every interleaving of the threads, the
+// books and words at the end of the single run, how it ended, and how many instructions its jobs
+// executed. Short jobs run sequentially on the root's own words, without a loan. The crate does not
+// interpret instructions, and does not know how threads find their jobs.
 #![tactic(auto)]
 
 mod course;

@@ -1,4 +1,4 @@
-// The moves of the dispatcher: the next job runs alone, or it flies, or the oldest that flies
+// The dispatcher's moves: the next job runs alone, or it is issued, or the oldest one in flight
 // retires.
 ghost use Rattle.std.specs.Prelude.{◌≡◌, ◌+◌, ◌<◌, [], length, Some, None, IsTrue, OnOk, OnErr};
 ghost use Rattle.std.specs.Prelude.{IfOk, IfErr};
@@ -38,23 +38,23 @@ use worker_pool::{Flight, Naming, WorkQueue};
 pub(crate) enum Move {
     /// The next job runs to its end on the root's own words, and retires.
     RunAlone,
-    /// The next job, which is of this entry, is lent its words, and flies.
+    /// The next job, of this entry, borrows its words and is in flight.
     Issue { entry: u32 },
-    /// The oldest job that flies retires.
+    /// The oldest job in flight retires.
     Retire,
 }
 
-/// A job that has retired: the root of the store, and how many instructions its run made, modulo
-/// 2^64.
+/// The result of a retirement: the root of the store, and the number of instructions of the job's
+/// run, modulo 2^64.
 #[derive(Drop)]
 pub(crate) struct Retired {
     pub root: RootSeat,
     pub steps: u64,
 }
 
-/// The next move. Where none flies the next job runs alone, or flies where it is worth a loan.
-/// Beside others it flies where it may, once those in front that have ended have retired; else the
-/// oldest retires.
+/// Chooses the next move. If no job is in flight, the next one runs alone, or is issued if a loan
+/// pays off. Beside others it is issued if it may be, once the ended jobs before it have retired;
+/// else the oldest retires.
 #[tactic(auto, using(crate::proofs::Choosing::may_run_alone, crate::proofs::Choosing::some_fly, crate::proofs::Choosing::some_wait, crate::proofs::Choosing::none_comes))]
 pub(crate) fn next_move<B: Naming>(
     books: &Books,
@@ -107,9 +107,9 @@ pub(crate) fn next_move<B: Naming>(
     Move::Retire
 }
 
-/// Whether the oldest retires before the next job is looked at: it has ended and no thread wants
-/// for a job, or the next job is known to wait for it, or enough others wait for a thread and the
-/// oldest is in hand.
+/// Whether to retire the oldest before looking at the next job: the oldest has ended and no thread
+/// is short of work; or the next job is known to wait for it; or the window is full; or enough
+/// others are queued and the oldest is in hand.
 fn waits_for_oldest<B: Naming>(window: &Window<B>, queue: &WorkQueue<B>, pace: &Pace) -> bool
     ensures { IsTrue result → 0 < length window.now.loans }
 {
@@ -120,7 +120,7 @@ fn waits_for_oldest<B: Naming>(window: &Window<B>, queue: &WorkQueue<B>, pace: &
             || (pace.are_enough(queue.waiting()) && window.oldest_is_in_hand()))
 }
 
-/// Whether so many jobs and one more have retired before the next line comes.
+/// Whether the jobs in flight and one more retire before the next line is due.
 #[tactic(auto, using(crate::proofs::Choosing::line_before, crate::proofs::Choosing::no_line))]
 fn retire_before_line(books: &Books, flying: usize) -> bool
     ensures { IsTrue result
@@ -132,14 +132,14 @@ fn retire_before_line(books: &Books, flying: usize) -> bool
     }
 }
 
-/// Whether two numbers together are below a third.
+/// Whether `a + b < most`, without overflow.
 fn is_sum_below(a: u64, b: u64, most: u64) -> bool
     ensures { IsTrue result → a + b < most }
 {
     a <= most && b < most - a
 }
 
-/// One more job flies, which may, in this way.
+/// Issues the next job, which must be allowed, in this way.
 #[tactic(auto, using(crate::proofs::Choosing::some_next))]
 pub(crate) fn issue<B: Course, R: Wait, G: Gate>(
     setup: &ThreadSetup<'_, B, R, G>,
@@ -175,8 +175,8 @@ pub(crate) fn issue<B: Course, R: Wait, G: Gate>(
     Ok(())
 }
 
-/// A start in a place of its own, where it is not moved as the job goes from hand to hand, and a
-/// run in which its job may begin. Memory is the only reason for an error.
+/// A start in a box, so that it does not move as the job passes between threads, and a run for its
+/// job. The only error is out of memory.
 fn with_run<B: Naming>(
     alloc: Global,
     window: &mut Window<B>,
@@ -192,7 +192,7 @@ fn with_run<B: Naming>(
     Ok((place, run))
 }
 
-/// A flight that is in hand goes this way.
+/// Sends a job that is in hand this way.
 fn set_out<B: Naming, R: Wait, G: Gate>(
     setup: &ThreadSetup<'_, B, R, G>,
     way: Way,
@@ -208,8 +208,8 @@ fn set_out<B: Naming, R: Wait, G: Gate>(
     }
 }
 
-/// The next job runs to its end on the root's own words, where none flies. It retires at once, and
-/// what is due arrives.
+/// Runs the next job to its end on the root's own words, with no job in flight. It retires at once,
+/// and the lines that are due arrive.
 #[tactic(auto, using(crate::proofs::Leaving::left_nothing))]
 pub(crate) fn run_alone<B: Course, R, G: Gate>(
     setup: &ThreadSetup<'_, B, R, G>,
@@ -249,8 +249,8 @@ pub(crate) fn run_alone<B: Course, R, G: Gate>(
     }
 }
 
-/// The oldest job retires, once it has come to its end, and what is due arrives where no job is
-/// left. There must be one.
+/// Retires the oldest job, once it has ended. If no job is left, the lines that are due arrive.
+/// There must be a job in flight.
 pub(crate) fn retire<B: Course, R: Wait, G: Gate>(
     setup: &ThreadSetup<'_, B, R, G>,
     pace: &mut Pace,
@@ -297,14 +297,14 @@ pub(crate) fn retire<B: Course, R: Wait, G: Gate>(
     }
 }
 
-/// What is left where memory was refused: the root of the store, and the jobs that fly.
+/// What is left when out of memory: the root of the store, and the jobs in flight.
 pub(crate) struct Left<B: Naming> {
     pub root: RootSeat,
     pub window: Window<B>,
 }
 
-/// All jobs that fly come to their ends, and give back their words: the root, which has lent
-/// nothing then.
+/// Waits until all jobs in flight have ended and takes back their words. Returns the root, without
+/// loans.
 pub(crate) fn drain<B: Course, R: Wait, G: Gate>(
     setup: &ThreadSetup<'_, B, R, G>,
     left: Left<B>,

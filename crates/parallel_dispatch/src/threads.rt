@@ -1,4 +1,4 @@
-// The run of all jobs in a scope of threads.
+// Runs all jobs in a scope of threads.
 ghost use Rattle.std.specs.Prelude.{◌≡◌, ◌<◌, false, IfOk, IfErr};
 ghost use Rattle.store_layout.specs.Laid.{IsLayout};
 ghost use Rattle.parallel_dispatch.specs.Ends.{IsOver, IsRunTo};
@@ -20,8 +20,8 @@ use std::thread::{Scope, Threads, available_parallelism};
 use ticket_book::{Pen, TicketBook};
 use worker_pool::{Means, WorkQueue};
 
-/// Runs the jobs to the end of the run, or to where it rests. Memory is the only reason for an
-/// error, and the root has lent nothing then.
+/// Runs the jobs to the end of the run, or until it is handed back. The only error is out of
+/// memory; the root then has no loans.
 pub(crate) fn run_named<B: Course + Send + Sync, R: Threads + Wait + Sync, G: Gate + Sync>(
     host: &Host<'_, R, G>,
     context: &RunContext<'_>,
@@ -44,9 +44,9 @@ pub(crate) fn run_named<B: Course + Send + Sync, R: Threads + Wait + Sync, G: Ga
     run_with_queue(host, context, means, book, &queue, pen, run)
 }
 
-/// The same with a place for the pool's jobs. What the threads see is handed to the closure one by
-/// one, and the setup of the threads is put together in it: of a closure that captures structs of
-/// references contracts follow nothing.
+/// The same with a work queue. The closure captures each reference on its own and builds
+/// `ThreadSetup` from them, because contracts say nothing about a closure that captures structs of
+/// references.
 fn run_with_queue<'x, B: Course + Send + Sync, R: Threads + Wait + Sync, G: Gate + Sync>(
     host: &'x Host<'x, R, G>,
     context: &'x RunContext<'x>,
@@ -113,9 +113,9 @@ fn run_with_queue<'x, B: Course + Send + Sync, R: Threads + Wait + Sync, G: Gate
     )
 }
 
-/// The same in a scope. Jobs run alone, or fly and retire, until the run is over or rests; workers
-/// are started for the jobs that are brought to them. In the end no job flies, also where memory
-/// was refused, and the workers are told that no more jobs come.
+/// The same within the scope. Jobs run alone, or are issued and retire, until the run is over or is
+/// handed back; workers are started for the jobs that go to them. At the end, also when out of
+/// memory, no job is in flight and the queue is closed.
 #[tactic(auto, using(crate::proofs::DispatcherMoves::begins_valid))]
 fn drive<'s, 'e: 's, B: Course + Send + Sync, R: Threads + Wait + Sync, G: Gate + Sync>(
     scope: &'s Scope<'s, &'e ()>,
@@ -162,8 +162,8 @@ fn drive<'s, 'e: 's, B: Course + Send + Sync, R: Threads + Wait + Sync, G: Gate 
     }
 }
 
-/// How many threads may run jobs beside the dispatcher, where so many jobs may run at once: no more
-/// than there are processors, of which two are taken to be there, and many where nobody knows.
+/// The most threads that run jobs beside the dispatcher, with this many workers: no more than there
+/// are processors, counted as at least two, and without that bound if their number is unknown.
 fn helpers<R: Threads>(rt: &R, workers: u32) -> u64 {
     if workers < 2 {
         return 0;

@@ -1,4 +1,4 @@
-// The jobs that fly, in the order of the single run.
+// The jobs in flight, in the order of the single run.
 ghost use Rattle.std.specs.Prelude.{◌≡◌, ◌+◌, ◌<◌, ◌^◌, ◌∷◌, ◌++◌, [], length, IsTrue, IfOk};
 ghost use Rattle.std.specs.Prelude.{MatchOption};
 ghost use Rattle.std.specs.List.{AllByRecursion};
@@ -19,8 +19,8 @@ use std::marker::Model;
 use ticket_book::{Pen, TicketBook};
 use worker_pool::{Flight, Naming, WorkQueue, launch};
 
-/// A job that flies, and how it started. Contracts see the loan that it is of. It cannot be
-/// dropped: its flight must be finished.
+/// A job in flight, and its start. Contracts see its loan. It cannot be dropped: its flight must be
+/// finished.
 struct InFlight<B: Naming> {
     flight: Flight<B>,
     start: Box<JobStart>,
@@ -38,14 +38,14 @@ impl<B: Naming> Model for InFlight<B> {
 }
 
 impl<B: Naming> InFlight<B> {
-    /// How it started.
+    /// The job's start.
     fn start(&self) -> &JobStart
         ensures { result.now ≡ self.now.start }
     {
         &self.start
     }
 
-    /// The flight and the start by themselves.
+    /// Takes the job apart into its flight and its start.
     fn into_oldest(self) -> Oldest<B>
         ensures flight { result.flight ≡ self }
         ensures start { result.start.value ≡ self.start }
@@ -55,10 +55,10 @@ impl<B: Naming> InFlight<B> {
     }
 }
 
-/// The window: the jobs that have begun and not retired, the oldest first, and what writes their
-/// tickets. Runs that are over wait here for the next job. Contracts see the loans, for how many
-/// there is room, and how many jobs have flown so far. It cannot be dropped: it must be closed,
-/// when none flies.
+/// The window: the jobs that have begun and not retired, the oldest first, and the pen that writes
+/// their tickets. Finished runs are kept here for reuse. Contracts see the loans, the capacity, and
+/// the number of jobs that have been in flight so far. It cannot be dropped: it must be closed,
+/// once it is empty.
 pub(crate) struct Window<B: Naming> {
     flying: VecDeque<InFlight<B>>,
     idle: Vec<Box<JobRun>>,
@@ -88,7 +88,7 @@ pub(crate) struct Oldest<B: Naming> {
 }
 
 impl<B: Naming> Window<B> {
-    /// A window in which none flies, with room for so many jobs.
+    /// An empty window with this capacity.
     pub fn new(alloc: Global, pen: Pen, room: u32) -> Result<Window<B>, Memory>
         requires pen { pen.0 ≡ B.book }
         ensures { IfOk result (λ w. w ≡ record { loans = []; room = room; flown = pen.1 }) }
@@ -103,22 +103,22 @@ impl<B: Naming> Window<B> {
         })
     }
 
-    /// How many jobs fly.
+    /// The number of jobs in flight.
     pub fn len(&self) -> usize
         ensures { result ≡ length self.now.loans }
     {
         self.flying.len()
     }
 
-    /// For how many jobs there is room.
+    /// The capacity.
     pub fn room(&self) -> usize
         ensures { result ≡ self.now.room }
     {
         self.flying.capacity()
     }
 
-    /// How many of the oldest must retire before a job passes with each that flies, as the later
-    /// one: it does so now where none must.
+    /// How many of the oldest jobs must retire before `later` passes the conflict tests with each
+    /// one in flight; 0 if it does so now.
     pub fn blockers(&self, pairs: &mut PairTable<'_>, later: &JobStart) -> usize
         requires window { AllByRecursion (HasSummary pairs.old) (starts_of self.now.loans) }
         requires later { HasSummary pairs.old later.now }
@@ -129,8 +129,7 @@ impl<B: Naming> Window<B> {
         blockers_among(pairs, &self.flying, later)
     }
 
-    /// How many tests it takes, about, to ask whether a job of this entry passes with each that
-    /// flies.
+    /// An estimate of the number of tests that `blockers` makes for a job of this entry.
     pub fn asking(&self, pairs: &mut PairTable<'_>, entry: u32) -> u64
         ensures { pairs.new ≡ pairs.old }
     {
@@ -141,7 +140,7 @@ impl<B: Naming> Window<B> {
         tests
     }
 
-    /// Whether the oldest that flies has come to its end, if one flies.
+    /// Whether a job is in flight and the oldest one has ended.
     pub fn oldest_has_ended(&self, queue: &WorkQueue<B>) -> bool {
         match self.flying.front() {
             Some(oldest) => oldest.flight.has_ended(queue),
@@ -149,7 +148,7 @@ impl<B: Naming> Window<B> {
         }
     }
 
-    /// Whether the oldest that flies is in the dispatcher's hand.
+    /// Whether the oldest job in flight is in the dispatcher's hand.
     pub fn oldest_is_in_hand(&self) -> bool {
         match self.flying.front() {
             Some(oldest) => oldest.flight.is_in_hand(),
@@ -157,13 +156,13 @@ impl<B: Naming> Window<B> {
         }
     }
 
-    /// The entry of the oldest that flies.
+    /// The entry of the oldest job in flight.
     pub fn oldest_entry(&self) -> Option<u32> {
         let oldest = self.flying.front()?;
         Some(oldest.start().job.entry)
     }
 
-    /// A run in which a job may begin: one that is over, or a new one.
+    /// A run for a new job: a finished one, or a new one.
     pub fn idle_run(&mut self, alloc: Global) -> Result<Box<JobRun>, Memory>
         ensures { self.new ≡ self.old }
     {
@@ -176,15 +175,15 @@ impl<B: Naming> Window<B> {
         }
     }
 
-    /// Keeps a run that is over for another job. Where there is no room it is let go.
+    /// Keeps a finished run for reuse; drops it if there is no memory for that.
     pub fn keep_run(&mut self, run: Box<JobRun>)
         ensures { self.new ≡ self.old }
     {
         let _ = self.idle.push(run);
     }
 
-    /// Makes a flight of a seat and a run that are ready, which the gate knows by this number. It
-    /// is to come into the window.
+    /// Makes a flight of a seat and a run that are ready; the gate knows it by this number. The
+    /// caller puts it into the window.
     pub fn launch(
         &mut self,
         book: &TicketBook,
@@ -202,7 +201,7 @@ impl<B: Naming> Window<B> {
         launch::<B>(book, &mut self.pen, seat, run, job)
     }
 
-    /// One more job flies, which starts so.
+    /// Adds a job in flight, with this start, as the youngest.
     pub fn push(&mut self, flight: Flight<B>, start: Box<JobStart>)
         requires room { length self.old.loans < self.old.room }
         requires start { start.value ≡ flight.start }
@@ -211,7 +210,7 @@ impl<B: Naming> Window<B> {
         self.flying.push_back_reserved(InFlight { flight, start });
     }
 
-    /// The oldest job leaves the window, if one flies.
+    /// Removes the oldest job, if there is one.
     pub fn pop(&mut self) -> Option<Oldest<B>>
         ensures { MatchOption result
             ((self.old.loans ≡ []) × (self.new ≡ self.old))
@@ -222,7 +221,7 @@ impl<B: Naming> Window<B> {
         Some(oldest.into_oldest())
     }
 
-    /// The window is given up, when none flies.
+    /// Closes the window, which must be empty.
     pub fn close(self)
         requires { self.loans ≡ [] }
     {
@@ -235,8 +234,8 @@ impl<B: Naming> Window<B> {
     }
 }
 
-/// How many of these, the first ones, end with one with which a job does not pass, as the later
-/// one: it passes with all where there is none.
+/// The length of the shortest prefix of `older` after whose retirement `later` passes the conflict
+/// tests with all that remain; 0 if it passes with all now.
 #[tactic(auto, using(crate::proofs::Passing::passes_begin, crate::proofs::Passing::passes_more, crate::proofs::Passing::passes_end, crate::proofs::Passing::summary_there))]
 fn blockers_among<B: Naming>(
     pairs: &mut PairTable<'_>,
@@ -257,7 +256,7 @@ fn blockers_among<B: Naming>(
     0
 }
 
-/// Whether a job passes with an older one.
+/// Whether a job passes the conflict tests with an older one.
 fn passes_with<B: Naming>(pairs: &mut PairTable<'_>, older: &InFlight<B>, later: &JobStart) -> bool
     requires older { HasSummary pairs.old older.now.start }
     requires later { HasSummary pairs.old later.now }
