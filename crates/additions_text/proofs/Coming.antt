@@ -1,4 +1,4 @@
--- The text of the additions comes.
+-- The text of the additions exists.
 use Rattle.std.proofs.Common.{◌≡◌, ◌↔◌, ℕ, Bool, true, false, List, [], ◌∷◌, ◌++◌, length, Option}
 use Rattle.std.proofs.Common.{Some, None, IsTrue, refl, sym, ◌∙◌, subst}
 use Rattle.std.specs.List.{Contains}
@@ -54,13 +54,13 @@ use Rattle.additions_text.specs.Additions.{AreAdditions, InTurn, IsSectionText, 
 use Rattle.additions_text.specs.Lines.{adding_text, adds_text, first_line, last_line}
 use Rattle.additions_text.proofs.Listing.{of_on}
 
--- what the jobs of an entry only add to
+-- the variables and fields that an entry's jobs only add to
 
 module _ (x : Exchange) (known : List Fact) (e : ℕ) where
   abbrev P : Facts
   P = Contains known
 
-  -- what is done with it at a place adds to it
+  -- an access at this place to the cell with this number adds to it
 
   abbrev AddsIf : CellKind → ℕ → Place → Access → Type 0
   AddsIf k n at a = number_in k a ≡ Some n → AddsOf x at.block k n at.layer
@@ -99,7 +99,7 @@ module _ (x : Exchange) (known : List Fact) (e : ℕ) where
       (listed_then (IsAccess x P e) (λ a n. listed_by k a ≡ Some n) (accesses x known e)
       (λ a is. listed_some (listed_by k a))) (λ n h. only_adds k n))
 
--- by the least facts, in order
+-- by the least fixed point, in order
 
 record AreInOrder (x : Exchange) (e : ℕ) (k : CellKind) : Type 0 where
   numbers : List ℕ
@@ -128,7 +128,7 @@ added_list x e =
       },
     )
 
--- what is told of a pair
+-- the verdict of a pair
 
 abbrev Verdict : Summary → Summary → Type 0
 Verdict one other = (r : Option Conflict) × IsLeastConflict (IsConflict one other) r

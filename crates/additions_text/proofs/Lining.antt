@@ -1,4 +1,4 @@
--- The lines of tests, or of none.
+-- The lines of tests, or the line for none.
 use Rattle.std.proofs.Common.{◌≡◌, ℕ, List, [], ◌∷◌, length, map, refl, arith}
 use Rattle.pair_tests.specs.declared.pair.Test.{Test}
 use Rattle.analysis_text.specs.declared.names.Names.{Names}

@@ -1,4 +1,4 @@
--- The list of each entry that is asked for.
+-- The list of each requested entry.
 use Rattle.std.proofs.Common.{◌≡◌, ◌⊎◌, inl, inr, ⊎_elim, ◌↔◌, ℕ, ◌+◌, ◌<◌, ◌≤◌, Bool, true, false}
 use Rattle.std.proofs.Common.{List, [], ◌∷◌, ◌++◌, length, Option, Some, None, Result, Ok, Err}
 use Rattle.std.proofs.Common.{IfOk, refl, sym, ap, ◌∙◌, subst, arith, length-append}
@@ -27,7 +27,7 @@ use Rattle.entry_additions.specs.Added.{AddsExactly}
 use Rattle.entry_additions.proofs.Exact.{IsAddedOf, added_from, added_to}
 use Rattle.additions_text.specs.Lists.{AreLists, IsListOf, is_asked}
 
--- facts that say the same of an entry
+-- sets of facts that agree on an entry
 
 module _ (x : Exchange) (P Q : Facts) (e : ℕ) (to : (p : ℕ) (s : Slot) (v : Value) → Known P e p s v → Known Q e p s v)
     (back : (p : ℕ) (s : Slot) (v : Value) → Known Q e p s v → Known P e p s v) where
@@ -72,7 +72,7 @@ summary_by_known x e k summaries s are there know =
     summary_alike x (IsLeast x) (Knows k) e s (record { each = λ f own least. (know.exact f).1 (own, least) })
     (record { each = λ f own here. ((know.exact f).0 here).1 }) (are.is e s there)
 
--- lists, one after the other
+-- the lists, one after the other
 
 pub lists_begin : (x : Exchange) (asked : Option EntryPair) (lists : List Added) → lists ≡ [] → AreLists x asked 0 lists
 lists_begin x asked lists none = record {

@@ -1,4 +1,4 @@
--- The text of the additions is one.
+-- The text of the additions is unique.
 use Rattle.std.proofs.Common.{◌≡◌, ◌↔◌, ℕ, List, [], ◌∷◌, ◌++◌, length, Option, Some, None, refl}
 use Rattle.std.proofs.Common.{sym, ap, ◌∙◌, subst}
 use Rattle.std.specs.Prelude.{slice_get}
@@ -34,7 +34,7 @@ use Rattle.addition_pairs.proofs.Telling.{told_once}
 use Rattle.additions_text.specs.Additions.{AreAdditions, InTurn, IsSectionText, nothing, then}
 use Rattle.additions_text.specs.Lines.{adding_text, adds_text, first_line, last_line}
 
--- lists in order that have the same are one
+-- two ordered lists with the same items are equal
 
 added_once : (x : Exchange) (e : ℕ) (one other : Added) → AddsExactly x (IsLeast x) e one → AddsExactly x (IsLeast x) e other → one ≡ other
 added_once x e one other a b =
@@ -44,7 +44,7 @@ added_once x e one other a b =
     (λ n. ((λ c. (b.are.fields n).1 ((a.are.fields n).0 c)), (λ c. (a.are.fields n).1 ((b.are.fields n).0 c)))) in
     λ i. record { variables = variables i; fields = fields i }
 
--- summaries without the accesses to what both lists have
+-- the summaries without the accesses to cells that both lists contain
 
 spared_by : (d e : Targets) → ((n : ℕ) → Contains d.variables n → Contains e.variables n)
     → ((n : ℕ) → Contains d.fields n → Contains e.fields n) → (a : Access) → IsSpared d a → IsSpared e a
@@ -69,7 +69,7 @@ both_same d e one other a b = record {
   fields = λ n. ((λ c. (b.fields n).1 ((a.fields n).0 c)), (λ c. (a.fields n).1 ((b.fields n).0 c)));
 }
 
--- what is told with additions
+-- the verdict with additions
 
 another_once : (first later one other : Summary) (a b : Option Told) → IsAnother first later one other a → IsAnother first later one other b → a ≡ b
 another_once first later one other None None p q = refl

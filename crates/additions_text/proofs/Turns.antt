@@ -1,4 +1,4 @@
--- The texts of sections, one after the other.
+-- The texts of the sections, one after the other.
 use Rattle.std.proofs.Common.{◌≡◌, ℕ, ◌+◌, ◌≤◌, List, [], ◌∷◌, ◌++◌, length, drop, Option, Some}
 use Rattle.std.proofs.Common.{refl, sym, ap, ◌∙◌, subst, append_assoc, append-nil}
 use Rattle.std.specs.Prelude.{slice_get}
@@ -16,7 +16,7 @@ use Rattle.additions_text.specs.Additions.{AreAdditions, InTurn, IsSectionText, 
 use Rattle.additions_text.specs.Lines.{first_line, last_line}
 
 module _ (T : Section → List ℕ → Type 0) (all : List Section) where
-  -- the sections before a place are told
+  -- the sections before an index are written
   pub record Goes (place : ℕ) (old now : List ℕ) : Type 0 where
     pub added : List ℕ
     pub is : now ≡ old ++ added

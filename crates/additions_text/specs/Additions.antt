@@ -15,13 +15,13 @@ use Rattle.addition_pairs.specs.declared.told.Told.{Told}
 use Rattle.addition_pairs.specs.Adding.{TellsAdding}
 use Rattle.additions_text.specs.Lines.{adding_text, adds_text, first_line, last_line}
 
--- what the jobs of the entry of this number only add to
+-- the text of an entry: the variables and fields that its jobs only add to
 pub record IsEntryText (x : Exchange) (e : ℕ) (text : List ℕ) : Type 0 where
   pub added : Added
   pub exactly : AddsExactly x (IsLeast x) e added
   pub is : text ≡ adds_text (names_of x.blocks) e (targets added)
 
--- what is told of a pair with additions
+-- the text of a pair: its verdict with additions
 pub record IsPairText (x : Exchange) (summaries : List Summary) (p : EntryPair) (text : List ℕ)
     : Type 0 where
   pub first : Summary
@@ -46,7 +46,7 @@ pub data InTurn (IsText : Section → List ℕ → Type 0) : List Section → Li
   then : (s : Section) (rest : List Section) (part text : List ℕ) → IsText s part
       → InTurn IsText rest text → InTurn IsText (s ∷ rest) (part ++ text)
 
--- the text of the exchange, of all entries and pairs or of those that are asked for
+-- the text of an exchange, of all entries and pairs or of the requested ones
 pub record AreAdditions (x : Exchange) (asked : Option EntryPair) (text : List ℕ) : Type 0 where
   pub summaries : List Summary
   pub are : AreSummaries x summaries

@@ -11,7 +11,7 @@ use Rattle.additions_meaning.specs.Additions.{Targets}
 use Rattle.addition_pairs.specs.declared.told.Told.{Told}
 use Rattle.addition_pairs.specs.declared.told.Told.TheVariants.{Never, Asks}
 
--- `ADDS e VAR B.V`, `ADDS e FIELD B.F`: the jobs of entry e only add to it
+-- `ADDS e VAR B.V`, `ADDS e FIELD B.F`: entry e's jobs only add to this variable or field
 
 abbrev pub variable_line : Names → ℕ → ℕ → List ℕ
 variable_line names e n = codes "ADDS " ++ decimal e ++ codes " VAR " ++ name_at names.variables n
@@ -36,7 +36,7 @@ test_line names p t = pair_words p.first p.later ++ codes " ADDING IF " ++ test_
 abbrev pub always_text : EntryPair → List ℕ
 always_text p = written (pair_words p.first p.later ++ codes " ADDING ALWAYS")
 
--- a line for each test; or that there is none
+-- a line for each test, or the line for none
 abbrev pub tests_text : Names → EntryPair → List Test → List ℕ
 tests_text names p [] = always_text p
 tests_text names p (t ∷ tests) = text_of (map (test_line names p) (t ∷ tests))
@@ -45,7 +45,7 @@ abbrev pub told_text : Names → EntryPair → Told → List ℕ
 told_text names p (Never c) = never_text names p c
 told_text names p (Asks tests) = tests_text names p tests
 
--- nothing where the same is told with additions
+-- empty if the verdict with additions is the same
 abbrev pub adding_text : Names → EntryPair → Option Told → List ℕ
 adding_text names p None = []
 adding_text names p (Some t) = told_text names p t

@@ -1,4 +1,4 @@
--- For each entry what its jobs only add to, as far as the entry is asked for.
+-- For each requested entry, the variables and fields that its jobs only add to.
 use Rattle.std.specs.Prelude.{◌≡◌, ℕ, Bool, true, nat_eq, ◌||◌, List, Option, Some, None, length}
 use Rattle.std.specs.Prelude.{slice_get}
 use Rattle.std.specs.List.{Contains}
@@ -10,7 +10,7 @@ use Rattle.conflicts_meaning.specs.declared.rows.Section.TheVariants.{Entry, Pai
 use Rattle.entry_additions.specs.declared.added.Added.{Added}
 use Rattle.entry_additions.specs.Added.{AddsExactly}
 
--- lines of the entry are asked for
+-- the entry's lines are requested
 abbrev pub is_asked : Option EntryPair → ℕ → Bool
 is_asked None e = true
 is_asked (Some p) e = nat_eq e p.first || nat_eq e p.later
@@ -24,7 +24,7 @@ pub record AreLists (x : Exchange) (asked : Option EntryPair) (count : ℕ) (lis
   pub long : length lists ≡ count
   pub is : (e : ℕ) (list : Added) → slice_get lists e ≡ Some list → IsListOf x asked e list
 
--- the entries of the section are asked for
+-- the entries of the section are requested
 abbrev pub AsksFor : Option EntryPair → Section → Type 0
 AsksFor asked (Entry e) = is_asked asked e ≡ true
 AsksFor asked (Pair p) = (is_asked asked p.first ≡ true) × (is_asked asked p.later ≡ true)

@@ -1,9 +1,9 @@
-// The text of the additions of an exchange.
+// Writes the additions of an exchange as a text.
 //
-// What goes in: an exchange with the summaries of its entries, and the pair of entries that is
-// asked for, if one is. What comes out: to which variables and fields the jobs of each entry only
-// add, and what is told of each pair without these accesses, where it is another thing than the
-// analysis tells. It does not know how facts are found, nor what an addition is.
+// In: an exchange with the summaries of its entries, and the pair of entries that is requested, if
+// any. Out: the variables and fields that each entry's jobs only add to, and for each pair its
+// verdict without these accesses, if it differs from that of the analysis. The crate does not know
+// how facts are found, or what an addition is.
 #![tactic(auto)]
 
 mod laws;

@@ -79,7 +79,7 @@ fn add_field(text: &mut Seq<u8>, names: &Names, entry: usize, number: u32) -> Re
     text.append(b"\n")
 }
 
-/// What is told of a pair with additions, if that is another thing than without.
+/// The lines of a pair's verdict with additions; empty if the verdict is the same without.
 pub(crate) fn adding_text(
     alloc: Global,
     names: &Names,
@@ -120,7 +120,7 @@ fn never_line(
     Ok(text)
 }
 
-/// A line for each of these tests; where there is none, that jobs always pass.
+/// A line for each test; if there is none, the line that says that jobs always pass.
 #[tactic(auto, using(crate::proofs::Lining::always_told, crate::proofs::Lining::tests_told))]
 fn tests_lines(
     alloc: Global,

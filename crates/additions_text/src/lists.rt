@@ -1,4 +1,4 @@
-// For each entry what its jobs only add to.
+// For each entry, the variables and fields that its jobs only add to.
 ghost use Rattle.std.specs.Prelude.{◌≡◌, ◌<◌, length, true, IfOk, OnOk};
 ghost use Rattle.flow_points.specs.Facts.{IsLeast};
 ghost use Rattle.least_facts.specs.Least.{IsFor};
@@ -14,7 +14,7 @@ use least_facts::Analyser;
 use plex_num::{Memory, Seq};
 use std::alloc::Global;
 
-/// The list of each entry; one that is not asked for has an empty list.
+/// The list of each entry; an entry that is not requested has an empty list.
 pub(crate) fn lists_of(
     alloc: Global,
     means: &Means<'_>,
@@ -63,7 +63,7 @@ fn nothing(alloc: Global) -> Added {
     }
 }
 
-/// Whether lines of an entry are asked for.
+/// Whether an entry's lines are requested.
 fn is_asked(asked: Option<EntryPair>, number: usize) -> bool
     ensures { result ≡ is_asked_for asked number }
 {
@@ -73,7 +73,7 @@ fn is_asked(asked: Option<EntryPair>, number: usize) -> bool
     }
 }
 
-/// What the jobs of an entry only add to. What they may have before each point is found once more.
+/// The variables and fields that an entry's jobs only add to. Computes the entry's facts once more.
 fn added_at(
     alloc: Global,
     means: &Means<'_>,

@@ -18,7 +18,7 @@ use plex_num::{Memory, Seq};
 use std::alloc::Global;
 use text_parts::Text;
 
-/// The names of an exchange, and for each entry its summary and what its jobs only add to.
+/// The names of an exchange, and for each entry its summary and its list of additions.
 #[derive(Clone, Copy)]
 pub(crate) struct Known<'a> {
     pub exchange: &'a Exchange,
@@ -53,7 +53,7 @@ pub(crate) fn add_sections(
     Ok(())
 }
 
-/// The section at a place.
+/// The section at an index.
 fn section_at(sections: &[Section], place: usize) -> Section
     requires { place < length sections.now }
     ensures { slice_get sections.now place ≡ Some result }

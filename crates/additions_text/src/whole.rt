@@ -1,4 +1,4 @@
-// The text.
+// The whole text.
 ghost use Rattle.std.specs.Prelude.{◌≡◌, OnOk};
 ghost use Rattle.analysis_text.specs.Pairs.{GainsText};
 ghost use Rattle.certificate_meaning.specs.Summaries.{AreSummaries};
@@ -18,10 +18,10 @@ use plex_num::Memory;
 use std::alloc::Global;
 use text_parts::Text;
 
-/// Appends the additions of an exchange whose entries have these summaries, of all entries or of
-/// the pair that is asked for: the variables and fields to which the jobs of each entry only add,
-/// and what is told of each pair without the accesses to those of both, where it is another thing.
-/// Memory is the only reason for an error.
+/// Appends the additions of an exchange whose entries have these summaries, for all entries or for
+/// the requested pair: the variables and fields that each entry's jobs only add to, and each pair's
+/// verdict without accesses to what both only add to, if it differs. The only error is out of
+/// memory.
 pub fn add_additions(
     text: &mut Text,
     alloc: Global,
