@@ -1,4 +1,4 @@
--- Each stage comes to an outcome, and so an answer comes to all words and files.
+-- Each stage has an outcome, so there is an answer to all arguments and files.
 use Rattle.std.proofs.Common.{◌≡◌, ℕ, Bool, true, false, List, Option, None, Some, Ok, Err, refl}
 use Rattle.plex_io.specs.Files.{Files}
 use Rattle.exchange_model.specs.declared.exchange.Exchange.{Exchange}
@@ -37,7 +37,7 @@ use Rattle.answer_existence.proofs.Judging.{judged}
 use Rattle.analysis_existence.proofs.Pairing.{analysis}
 use Rattle.analysis_existence.proofs.Summaries.{all_summaries}
 
--- an outcome comes, which is such a one
+-- an outcome that satisfies `Is` exists
 abbrev Comes : (Out Answer → Type 0) → Type 0
 Comes Is = (o : Out Answer) × Is o
 

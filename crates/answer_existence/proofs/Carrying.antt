@@ -1,4 +1,4 @@
--- A state goes over to another exchange.
+-- A state can be carried over to another exchange.
 use Rattle.std.proofs.Common.{◌≡◌, ℕ, zero, suc, ◌+◌, ◌<◌, List, [], ◌∷◌, length, slice_index, refl}
 use Rattle.std.proofs.Common.{ap, ◌∙◌, arith}
 use Rattle.exchange_model.specs.declared.entry.Cell.{Cell}
@@ -13,7 +13,7 @@ use Rattle.finite_facts.proofs.Finite.{Decided, less, no, yes}
 use Rattle.block_change.specs.Carried.{AreCarriedWords, IsCarried, carried_chains, carried_value}
 use Rattle.block_change.specs.Carried.{carried_with}
 
--- the values of a function from a number on
+-- the values of a function, starting from an argument
 
 values_from : (ℕ → ℕ) → ℕ → ℕ → List ℕ
 values_from f a zero = []
@@ -31,7 +31,7 @@ at f a (suc n) zero lt = (let same : a ≡ a + 0 = omega arith in ap f same)
 at f a (suc n) (suc k) lt = (let next : a + 1 + k ≡ a + suc k = omega arith in at f (a + 1) n k (let h = lt in omega (arith, h)) ∙ ap f next)
 
 module _ (x y : Exchange) (store : List ℕ) (records : List Held) where
-  -- the value of the cell of a number
+  -- the value of the cell with this number
   value : (i : ℕ) → Decided (i < cell_count y.blocks) → ℕ
   value i (yes lt) = carried_value x y store records (cell_numbered y.blocks i lt).cell
   value i (no past) = 0
@@ -61,7 +61,7 @@ module _ (x y : Exchange) (store : List ℕ) (records : List Held) where
         ∙ value_is c is (less (cell_number y.blocks c) (cell_count y.blocks));
   }
 
--- the state, carried over
+-- the state after the change
 pub carried : (x y : Exchange) (s : State) → IsExchange y → (t : State) × IsCarried x y s t
 carried x y s kept =
     let records = all_records (carried_chains x y s.chains) in

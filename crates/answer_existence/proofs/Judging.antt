@@ -1,4 +1,4 @@
--- A judgement on the text of a certificate comes.
+-- The text of a certificate has a verdict.
 use Rattle.std.proofs.Common.{inl, inr, ℕ, List, Option, None, Some, refl}
 use Rattle.exchange_model.specs.declared.exchange.Exchange.{Exchange}
 use Rattle.exchange_model.specs.Kept.{IsExchange}

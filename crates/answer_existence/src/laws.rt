@@ -1,4 +1,4 @@
-// That there is an answer, said by clauses.
+// Theorems, stated as contracts: an answer exists.
 ghost use Rattle.std.specs.Prelude.{List};
 ghost use Rattle.plex_io.specs.Files.{Files};
 ghost use Rattle.exchange_model.specs.declared.exchange.Exchange.{Exchange};
@@ -9,15 +9,15 @@ ghost use Rattle.command_words.specs.Words.{Word};
 ghost use Rattle.answer_meaning.specs.Answer.{IsAnswer};
 ghost use Rattle.answer_meaning.specs.declared.answer.Answer.{Answer};
 
-/// A state of any exchange can be carried over to each exchange.
+/// A state of any exchange can be carried over to every exchange.
 pub fn states_are_carried()
     ensures { (old new : Exchange) (before : State)
         → IsExchange new → (after : State) × IsCarried old new before after }
 {}
 
-/// To all words over all files there is an answer: a status and a text. So there is always
-/// something that the program is to answer, to `analyse`, `certify`, a run with a certificate and a
-/// change no less than to all others.
+/// For all arguments and files there is an answer, a status and a text. So what the program must
+/// answer is defined for every command, including `analyse`, `certify`, a run with a certificate,
+/// and `change`, whose definitions are not functions.
 pub fn an_answer_comes()
     ensures { (words : List Word) (files : Files)
         → (answer : Answer) × IsAnswer words files answer }

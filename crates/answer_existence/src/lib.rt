@@ -1,7 +1,7 @@
-// Laws of the program's answers: an answer comes to all words and files.
+// Theorems about the program's answers: an answer exists for all arguments and files.
 //
-// What goes in are definitions: what the program answers. What comes out are laws, as public
-// functions without a body. There is no code, and nothing is known of how an answer is found.
+// In: the definitions of the answers. Out: theorems, as public functions without a body. There is
+// no code, and nothing here says how an answer is found.
 #![tactic(auto)]
 
 mod laws;

@@ -1,4 +1,4 @@
--- Each stage comes to one outcome, and so the words and the files have one answer.
+-- Each stage has at most one outcome, so arguments and files have at most one answer.
 use Rattle.std.proofs.Common.{◌≡◌, ℕ, Bool, true, false, List, Option, Some, None, Ok, Err, refl}
 use Rattle.std.proofs.Common.{sym, ap, ◌∙◌, subst}
 use Rattle.plex_io.specs.Files.{Files}
@@ -33,7 +33,7 @@ use Rattle.answer_meaning.specs.declared.answer.Answer.{Answer}
 use Rattle.answer_meaning.proofs.Accepted.{accepted}
 use Rattle.answer_laws.proofs.Judging.{judged_once}
 
--- a stage that is followed by one that comes to one outcome comes to one
+-- a stage has at most one outcome if the next one does
 goes_once : {A : Type 0} (s : Out A) (Go : A → Out Answer → Type 0) (o p : Out Answer)
     → ((a : A) → s ≡ Ok a → Go a o → Go a p → o ≡ p) → ComesOf s Go o → ComesOf s Go p → o ≡ p
 goes_once (Ok a) Go o p once one other = once a refl one other

@@ -1,4 +1,4 @@
--- One judgement on the text of a certificate.
+-- The verdict on the text of a certificate is unique.
 use Rattle.std.proofs.Common.{◌≡◌, ℕ, List, Option, Some, None, Ok, refl, ap, subst}
 use Rattle.exchange_model.specs.declared.exchange.Exchange.{Exchange}
 use Rattle.certificate_text.specs.declared.certificate.Certificate.{Certificate}
@@ -13,12 +13,12 @@ use Rattle.answer_meaning.specs.declared.fault.CertificateFault.TheVariants.{Too
 use Rattle.answer_meaning.specs.declared.fault.CertificateFault.TheVariants.{WrongExchange, Strange}
 use Rattle.answer_meaning.specs.declared.fault.CertificateFault.TheVariants.{Missing}
 
--- a text with a bad line is that of no certificate
+-- a text with a malformed line is no certificate
 
 bad_is_none : (text : List ℕ) (l : ℕ) (c : Certificate) → HasBadLine text l → IsTextOf text c → ⊥
 bad_is_none text l c bad_line is = let clash = bad_line_told text (Ok c) l is bad_line in cc
 
--- one verdict on a certificate
+-- the verdict on a certificate is unique
 
 refused_not_closed : (x : Exchange) (c : Certificate) (f : CertificateFault) → Judges x c (Some f) → Judges x c None → ⊥
 refused_not_closed x c TooLarge r is = r
@@ -53,7 +53,7 @@ verdict_once x c None (Some g) a b = absurd (refused_not_closed x c g b a)
 verdict_once x c (Some f) None a b = absurd (refused_not_closed x c f a b)
 verdict_once x c (Some f) (Some g) a b = ap (λ h. Some h) (fault_once x c f g a b)
 
--- and on its text
+-- so is the verdict on its text
 pub judged_once : (x : Exchange) (text : Option (List ℕ)) (o p : Option CertificateFault) → IsJudged x text o → IsJudged x text p → o ≡ p
 judged_once x _ _ _ large large = refl
 judged_once x _ _ _ (bad text l one) (bad _ m other) = ap (λ n. Some (BadText n)) (one_line text l m one other)

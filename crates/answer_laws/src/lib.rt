@@ -1,7 +1,7 @@
-// Laws of the program's answers: two answers to the same words and files are one.
+// Theorem about the program's answers: the answer to given arguments and files is unique.
 //
-// What goes in are definitions: what the program answers. What comes out is a law, as a public
-// function without a body. There is no code, and nothing is known of how an answer is found.
+// In: the definitions of the answers. Out: the theorem, as a public function without a body. There
+// is no code, and nothing here says how an answer is found.
 #![tactic(auto)]
 
 mod laws;

@@ -1,4 +1,4 @@
--- What clashes of two summaries comes as a list, in order.
+-- The list of the conflicting accesses of two summaries exists, in order.
 use Rattle.std.proofs.Common.{◌≡◌, ℕ, ◌+◌, ◌<◌, List, length, Some, slice_get, refl, sym, subst}
 use Rattle.std.specs.Option.{option_map}
 use Rattle.std.proofs.lemmas.Option.{slice_get_within}

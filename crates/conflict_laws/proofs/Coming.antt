@@ -1,4 +1,4 @@
--- The text of the conflicts comes.
+-- The text of the conflicts exists.
 use Rattle.std.proofs.Common.{◌⊎◌, inl, inr, ℕ, ◌-◌, ◌<◌, ◌≤◌, List, [], ◌∷◌, ◌++◌, length, Option}
 use Rattle.std.proofs.Common.{refl, sym, subst}
 use Rattle.std.specs.List.{Contains, flat_map}
@@ -34,7 +34,7 @@ section_text x ss (Pair p) there =
     let r = clash_rows one.0 other.0 in
     (flat_map (clash_text p) r.0, record { first = one.0; later = other.0; of_first = one.1; of_later = other.1; rows = r.0; clash = r.1; is = refl })
 
--- its lines are lines of it
+-- each of its lines is a line of the section
 all_lines : (x : Exchange) (ss : List Summary) (s : Section) (text : List ℕ) → IsSectionText x ss s text → HasSectionLines x ss s text
 all_lines x ss (Entry e) text h = entry_lines x ss e text h
 all_lines x ss (Pair p) text h = pair_lines ss p text h
@@ -43,7 +43,7 @@ module _ (T L : Section → List ℕ → Type 0) (most : ℕ) (lines : (s : Sect
   abbrev Comes : List Section → ℕ → Type 0
   Comes all room = (text : List ℕ) × Told T L most all room text
 
-  -- the first one is told, or there is no room for it
+  -- the first section is written, or there is no room for it
   with_first : (s : Section) (rest : List Section) (room : ℕ) (part : List ℕ) → T s part
       → ((left : ℕ) → Comes rest left) → (room < length part) ⊎ (length part ≤ room) → Comes (s ∷ rest) room
   with_first s rest room part is more (inl over) = (limit_line most, no_room s rest room part (lines s part is) over)

@@ -1,4 +1,4 @@
--- Rows tell exactly the conflicts.
+-- The rows list exactly the conflicts.
 use Rattle.std.proofs.Common.{◌≡◌, ◌↔◌, inl, inr, ⊎_elim, ℕ, ◌+◌, nat_lt, List, length, Option}
 use Rattle.std.proofs.Common.{Some, None, refl, sym, ap, ◌∙◌, subst}
 use Rattle.std.specs.Option.{option_map}
@@ -21,7 +21,7 @@ use Rattle.conflict_rows.proofs.Alone.{stands_at}
 use Rattle.conflict_rows.proofs.Finding.{contained}
 use Rattle.conflict_rows.proofs.Pointed.{same_level}
 
--- no two conflicts are listed alike
+-- different conflicts are listed differently
 
 one_variable : (n m : ℕ) → clash.Variable n ≡ clash.Variable m → n ≡ m
 one_variable n m e = cc
@@ -69,7 +69,7 @@ module _ (first later : Summary) where
       subst (IsConflict first later) (listed_once (conflict.Above h.level) c (sym h.clash ∙ same))
       (on_level h.level (contained first.levels h.place h.level h.of_first) h.below)
 
-  -- a row, and that it is of the conflict
+  -- a row of the conflict
   record RowOf (c : Conflict) : Type 0 where
     row : ClashRow
     is : row.clash ≡ listed c

@@ -1,4 +1,4 @@
--- The points that give what a summary has come as a list, in order.
+-- The list of the program points that cause each item of a summary exists, in order.
 use Rattle.std.proofs.Common.{◌≡◌, ℕ, ◌+◌, ◌<◌, List, length, Some, slice_get, refl, sym, ap, ◌∙◌}
 use Rattle.std.proofs.Common.{subst}
 use Rattle.std.specs.List.{Contains}
@@ -59,7 +59,7 @@ module _ (x : Exchange) (known : List Fact) (e : ℕ) where
   abbrev Q : ℕ → Facts
   Q p = Contains (of_point p).items
 
-  -- what the statement there gives, by these alone
+  -- what the statement at the point causes, by these facts alone
 
   gives_access : (p : ℕ) (a : Access) → IsAccess x (Q p) e a → GivesAccess x P e a p
   gives_access p a h =
@@ -110,7 +110,7 @@ module _ (x : Exchange) (known : List Fact) (e : ℕ) where
     abbrev row : ℕ → ℕ → GivenAt
     row n p = record { number = n; point = p }
 
-    -- the row of what has this number, at some place where it is given
+    -- the row of the item with this number, at some place that causes it
     abbrev Placed : (ℕ → Type 0) → ℕ → GivenAt → Type 0
     Placed G n r = (at : Place) × IsPlace x at × (G at.point × (r ≡ row n at.point))
 
@@ -148,7 +148,7 @@ module _ (x : Exchange) (known : List Fact) (e : ℕ) where
         (λ n lt. listed_then (λ a. slice_get s.accesses n ≡ Some a) (OfAccess n) (listed_some (slice_get s.accesses n))
         (λ a there. placed (λ p. GivesAccess x P e a p) n (λ p. access_given p a))))
 
-    -- levels, which are numbered behind them
+    -- levels, which are numbered after the accesses
 
     abbrev OfLevel : ℕ → Level → GivenAt → Type 0
     OfLevel m l r = Placed (λ p. SendsFrom x P e l p) (length s.accesses + m) r
@@ -180,7 +180,7 @@ module _ (x : Exchange) (known : List Fact) (e : ℕ) where
     given : Listed (IsGiven x P e s)
     given = listed_or (IsAccessRow x P e s) (IsLevelRow x P e s) access_rows level_rows
 
--- by the least facts, in order
+-- by the least fixed point, in order
 pub given_rows : (x : Exchange) (e : ℕ) (s : Summary) → (rows : List GivenAt) × AreGiven x (IsLeast x) e s rows
 given_rows x e s =
     let l = least_facts x in

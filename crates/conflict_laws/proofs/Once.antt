@@ -1,4 +1,4 @@
--- The text of the conflicts is one.
+-- The text of the conflicts is unique.
 use Rattle.std.proofs.Common.{◌≡◌, ◌⊎◌, inl, inr, ℕ, ◌+◌, ◌-◌, ◌<◌, ◌≤◌, List, [], ◌∷◌, ◌++◌}
 use Rattle.std.proofs.Common.{length, Option, refl, sym, ap, ◌∙◌, subst, arith, length-append}
 use Rattle.std.specs.Cmp.{IsTotalOrder}
@@ -31,7 +31,7 @@ use Rattle.conflicts_meaning.specs.Rows.{AreClashRows, AreSomeClashRows, row_ord
 use Rattle.conflicts_meaning.specs.Told.{AreConflicts, HasSectionLines, IsSectionText, Told}
 use Rattle.conflicts_meaning.specs.Told.{all_told, no_room, sections, told}
 
--- lines of some items of a list in order take no more than those of all
+-- the lines of some items of an ordered list are no longer in total than those of all items
 
 module _ {K : Type 0} (R : K → K → Ordering) (o : IsTotalOrder R) (f : K → List ℕ) where
   abbrev size_of : List K → ℕ
@@ -43,7 +43,7 @@ module _ {K : Type 0} (R : K → K → Ordering) (o : IsTotalOrder R) (f : K →
   after : (x : K) (xs : List K) (k : K) → AllByRecursion (λ y. R x y ≡ Less) xs → Contains xs k → R x k ≡ Less
   after x xs k all c = All-contains (λ y. R x y ≡ Less) xs k (All-from_recursion (λ y. R x y ≡ Less) xs all) c
 
-  -- what comes after the first is in the rest
+  -- an item other than the first is in the rest
   in_rest : (y k : K) (ys : List K) → (y ≡ k → ⊥) → Contains (y ∷ ys) k → Contains ys k
   in_rest y k ys other c = by (first_or_later y k ys c)
     where

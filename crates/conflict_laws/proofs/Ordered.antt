@@ -1,4 +1,4 @@
--- The order of the rows is that of their conflicts.
+-- The rows are in the order of their conflicts.
 use Rattle.std.proofs.Common.{◌≡◌, inl, inr, ℕ, ◌<◌, List, get_or, Some, refl, sym, ap, ◌∙◌}
 use Rattle.std.specs.Prelude.{slice_get}
 use Rattle.std.specs.List.Sorted.{IsStrictlySortedBy}
@@ -25,7 +25,7 @@ use Rattle.conflict_laws.specs.Conflicts.{AreInOrder, IsToldAt}
 abbrev clash_order : Clash → Clash → Ordering
 clash_order = clashes.ghosts.cmp
 
--- a conflict that comes before another is listed before it
+-- a conflict that precedes another one is listed before it
 
 tied : (u : Value) → value_order u u ≡ Equal
 tied u = tied_itself value_laws.total-law u
@@ -59,7 +59,7 @@ listed_before (Above l) (Field m w z) h = absurd h
 listed_before (Above l) (Seizing g) h = absurd h
 listed_before (Above l) (Above m) h = nat_less (level_number l) (level_number m) h
 
--- a row that is listed behind another stands below it
+-- a row that is listed after another one is greater
 
 behind : (r s : ClashRow) → clash_order s.clash r.clash ≡ Less → row_order r s ≡ Less → ⊥
 behind r s low less =

@@ -1,4 +1,4 @@
--- The verdict of a pair is that of its first row.
+-- The verdict of a pair follows from its first row.
 use Rattle.std.proofs.Common.{◌≡◌, ◌↔◌, inl, inr, ℕ, zero, suc, List, [], ◌∷◌, Some, refl, sym, ap}
 use Rattle.std.proofs.Common.{◌∙◌, subst, arith}
 use Rattle.std.specs.Prelude.{slice_get}
@@ -32,7 +32,7 @@ conflict_of : (first later : Summary) (r : ClashRow) → IsClashRow first later 
 conflict_of first later r (inl h) = (let m = mapped (clash_of h.one h.other) r.clash h.clash in record { conflict = m.conflict; is = sym m.is })
 conflict_of first later r (inr h) = record { conflict = conflict.Above h.level; is = h.clash }
 
--- a place at which it is told
+-- an index at which a conflict is listed
 record Placed (rows : List ClashRow) (c : Conflict) : Type 0 where
   place : ℕ
   told : IsToldAt rows place c
@@ -40,13 +40,13 @@ record Placed (rows : List ClashRow) (c : Conflict) : Type 0 where
 placed : (rows : List ClashRow) (c : Conflict) → IsToldIn rows c → Placed rows c
 placed rows c h = (let s = stands_at rows h.row h.there in record { place = s.0; told = record { row = h.row; there = s.1; is = h.is } })
 
--- what the first row tells is told in one way
+-- the conflict at an index is unique
 one_told : (rows : List ClashRow) (i : ℕ) (c d : Conflict) → IsToldAt rows i c → IsToldAt rows i d → c ≡ d
 one_told rows i c d one other =
     let row : one.row ≡ other.row = same_Some one.row other.row (sym one.there ∙ other.there) in
     listed_once c d (sym one.is ∙ ap (λ (r : ClashRow). r.clash) row ∙ other.is)
 
--- a list that has something has a first item, and one that has nothing is empty
+-- a list with an item has a first one; a list without items is empty
 
 first_there : (rows : List ClashRow) (r : ClashRow) → Contains rows r → (q : ClashRow) × (slice_get rows 0 ≡ Some q)
 first_there [] r c = absurd (none_in r c)
@@ -66,7 +66,7 @@ module _ (first later : Summary) (rows : List ClashRow) (are : AreClashRows firs
   is_conflict : (c : Conflict) (q : ClashRow) → Contains rows q → q.clash ≡ listed c → IsConflict first later c
   is_conflict c q there is = (all_told first later rows are c).1 (record { row = q; there = there; is = is })
 
-  -- what is told at some place does not come before what the first row tells
+  -- no conflict in the list precedes that of the first row
   not_sooner : (c d : Conflict) (j : ℕ) → IsToldAt rows 0 c → IsToldAt rows j d → Precedes d c → ⊥
   not_sooner c d zero one other before = none_before_itself c (subst (λ e. Precedes e c) (one_told rows 0 d c other one) before)
   not_sooner c d (suc j) one other before = (in_order rows are.rising).none_before 0 (suc j) c d (omega arith) one other before

@@ -1,9 +1,9 @@
-// Laws of conflicts: what their rows tell, and in which order; and that the text that tells them
-// all comes, and is one.
+// Theorems about conflicts: what their rows list, and in which order; and that the text with all of
+// them exists and is unique.
 //
-// What goes in are definitions: the rows of two summaries, their conflicts, which of two conflicts
-// comes first, the verdict of a pair, and the text of an exchange. What comes out are laws, as
-// public functions without a body. There is no code, and nothing is known of how rows are found.
+// In: definitions (the rows of two summaries, their conflicts, which of two conflicts comes first,
+// the verdict of a pair, and the text of an exchange). Out: theorems, as public functions without a
+// body. There is no code, and nothing here says how rows are found.
 #![tactic(auto)]
 
 mod laws;
