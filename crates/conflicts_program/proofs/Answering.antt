@@ -1,4 +1,4 @@
--- From what is told of an exchange to the answer to the words.
+-- From the report on an exchange to the answer to the arguments.
 use Rattle.std.proofs.Common.{◌≡◌, ℕ, Bool, true, false, ◌≤◌, ◌<◌, List, [], ◌∷◌, length, get_or}
 use Rattle.std.proofs.Common.{Option, Some, None, Result, Ok, IfOk, refl, sym, ap, ◌∙◌, subst}
 use Rattle.std.proofs.Common.{arith}
@@ -19,7 +19,7 @@ use Rattle.conflicts_program.specs.Words.{AnswersConflicts, AreOthers, Asked, Is
 use Rattle.conflicts_program.specs.Words.{IsConflictsAnswer, asked, asked_by, asked_of_one}
 use Rattle.conflicts_program.specs.Words.{asked_of_pair, is_own, usage_answer}
 
--- one word, and three, are their items
+-- lists of one and of three words, by their items
 
 one_is : (words : List Word) (e : Word) → 1 ≤ length words → length words < 2 → e ≡ get_or words 0 e → e ∷ [] ≡ words
 one_is [] e least most i = absurd (omega (arith, least))
@@ -34,7 +34,7 @@ three_are (u ∷ v ∷ []) e i j least most a b c = absurd (omega (arith, least)
 three_are (u ∷ v ∷ w ∷ []) e i j least most a b c = λ p. a p ∷ b p ∷ c p ∷ []
 three_are (u ∷ v ∷ w ∷ x ∷ rest) e i j least most a b c = absurd (omega (arith, most))
 
--- what the words ask for is told
+-- the arguments request a report
 
 told_so : (words : List Word) (w : Asked) (files : Files) (o : Out Answer) → asked words ≡ Some w
     → FromExchange w.exchange (AnswersConflicts w.pair) files o → IsConflictsAnswer words files (answer_of o)
@@ -55,7 +55,7 @@ makes_asked held words w b a r is comes ends =
     makes_told (AreOthers words) usage_answer held (FromExchange w.exchange (AnswersConflicts w.pair)) b a r
     (λ others. none-some w (sym others ∙ is)) comes ends
 
--- they ask for nothing
+-- the arguments request nothing
 
 usage_is : (words : List Word) (files : Files) (o : Out Answer) → AreOthers words → Ok usage_answer ≡ o → IsConflictsAnswer words files (answer_of o)
 unfolding IsConflictsAnswer
@@ -70,7 +70,7 @@ answers_usage held words n r others reads =
 makes_no_answer : (words : List Word) (r : Result Answer Stop) → AreOthers words → ReadAs (Ok usage_answer) r → Makes (AreOthers words) usage_answer r
 makes_no_answer words r others reads = makes_usage (AreOthers words) usage_answer r others refl reads
 
--- which words these are
+-- which arguments these are
 
 asks_nothing : (words : List Word) → (length words ≡ 1 → ⊥) → (length words ≡ 3 → ⊥) → AreOthers words
 asks_nothing [] one three = refl

@@ -1,4 +1,4 @@
--- An answer comes to all words and files, and no more than one.
+-- The answer to all arguments and files exists and is unique.
 use Rattle.std.proofs.Common.{◌≡◌, List, ◌++◌, Option, Some, None, Ok, Err, refl, sym, ap, ◌∙◌}
 use Rattle.plex_io.specs.Files.{Files}
 use Rattle.exchange_model.specs.declared.exchange.Exchange.{Exchange}
@@ -16,7 +16,7 @@ use Rattle.answer_meaning.specs.declared.answer.Answer.{Answer}
 use Rattle.conflicts_program.specs.Words.{AnswersConflicts, Asked, IsAnswerBy, IsConflictsAnswer}
 use Rattle.conflicts_program.specs.Words.{asked, usage_answer}
 
--- what is told of the exchange that a name comes to
+-- the report on the exchange of a file
 
 abbrev Tells : Option EntryPair → Out Exchange → Out Answer → Type 0
 Tells p s o = ComesOf s (λ x. IsAnAnswer (AnswersConflicts p x)) o
@@ -44,7 +44,7 @@ told_once p (Ok x) (Ok a) (Err r) one other = absurd other
 told_once p (Ok x) (Err r) q one other = absurd one
 told_once p (Err r) o q one other = sym one ∙ other
 
--- the answer to what is asked
+-- the answer to a request
 
 answer_by : (w : Option Asked) (files : Files) → (a : Answer) × IsAnswerBy w files a
 answer_by None files = (usage_answer, refl)

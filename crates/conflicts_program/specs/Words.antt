@@ -1,4 +1,5 @@
--- What plex-conflicts answers: a status and a text for each list of words and each set of files.
+-- The answer of plex-conflicts: a status and a text for each list of arguments and each set of
+-- files.
 use Rattle.std.specs.Prelude.{◌≡◌, ℕ, Bool, ◌||◌, List, [], ◌∷◌, ◌++◌, codes, Option, Some, None}
 use Rattle.std.specs.Prelude.{if◌then◌else◌}
 use Rattle.std.specs.Str.{bytes_eq}
@@ -23,7 +24,7 @@ usage_text = codes "usage: plex-conflicts E [i j]" ++ LF
 abbrev pub usage_answer : Answer
 usage_answer = record { status = status.Usage; text = usage_text }
 
--- the conflicts of an exchange, and behind them its additions
+-- the conflicts of an exchange, then its additions
 pub record TellsAll (x : Exchange) (asked : Option EntryPair) (text : List ℕ) : Type 0 where
   pub conflicts : List ℕ
   pub additions : List ℕ
@@ -35,7 +36,7 @@ pub record AnswersConflicts (asked : Option EntryPair) (x : Exchange) (a : Answe
   pub status : a.status ≡ status.Done
   pub told : TellsAll x asked a.text
 
--- the pair of two numbers, where both are numbers
+-- a pair of two numbers, if both arguments are numbers
 abbrev pub both_numbers : Option ℕ → Option ℕ → Option EntryPair
 both_numbers None j = None
 both_numbers (Some i) None = None
@@ -44,7 +45,7 @@ both_numbers (Some i) (Some j) = Some (pair i j)
 abbrev pub asked_by : Word → Word → Option EntryPair
 asked_by first later = both_numbers (number_of first) (number_of later)
 
--- what the words ask for: the name of an exchange text, and a pair or none
+-- the request that the arguments make: the name of an exchange text, and a pair or none
 pub record Asked : Type 0 where
   pub exchange : Word
   pub pair : Option EntryPair
@@ -53,7 +54,7 @@ abbrev pub asked_of_pair : Word → Option EntryPair → Option Asked
 asked_of_pair e None = None
 asked_of_pair e (Some p) = Some (record { exchange = e; pair = Some p })
 
--- a word alone that asks for the help or the version of the program, and names no file
+-- a single argument that requests help or the version and is no file name
 abbrev pub is_own : Word → Bool
 is_own w = bytes_eq w (codes "--help") || bytes_eq w (codes "-h") || bytes_eq w (codes "--version")
 
@@ -65,11 +66,11 @@ asked (e ∷ []) = asked_of_one (is_own e) e
 asked (e ∷ i ∷ j ∷ []) = asked_of_pair e (asked_by i j)
 asked words = None
 
--- the words ask for nothing
+-- the arguments are no valid request
 abbrev pub AreOthers : List Word → Type 0
 AreOthers words = asked words ≡ None
 
--- what is told of the exchange comes to this answer
+-- the answer to a valid request
 pub record IsTold (e : Word) (p : Option EntryPair) (files : Files) (a : Answer) : Type 0 where
   pub outcome : Out Answer
   pub comes : FromExchange e (AnswersConflicts p) files outcome
@@ -79,6 +80,6 @@ abbrev pub IsAnswerBy : Option Asked → Files → Answer → Type 0
 IsAnswerBy None files a = usage_answer ≡ a
 IsAnswerBy (Some w) files a = IsTold w.exchange w.pair files a
 
--- the answer to these words: what they ask for, or the usage line
+-- the answer to these arguments: the report that they request, or the usage line
 unfoldable pub IsConflictsAnswer : List Word → Files → Answer → Type 0
 IsConflictsAnswer words files a = IsAnswerBy (asked words) files a

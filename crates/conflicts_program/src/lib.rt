@@ -1,10 +1,10 @@
-// The program plex-conflicts as one call: all conflicts of an exchange, with their statements, and
-// what its jobs only add to.
+// The program plex-conflicts as one call: reports all conflicts of an exchange with their
+// statements, and what its jobs only add to.
 //
-// What goes in: the name of an exchange text, and the numbers of two entries where one pair is
-// asked for; a shelf of files and a sink. What comes out: a status, and in the sink the text, or
-// the line of the first fault of the exchange text. It knows no process: main gives it the real
-// devices. It runs nothing.
+// In: the name of an exchange text, and the numbers of two entries if only one pair is requested; a
+// shelf of files and a sink. Out: a status, and in the sink the text, or the line of the first
+// fault of the exchange text. The crate does not touch the process: main passes in the real
+// devices. No job is run.
 #![tactic(auto)]
 
 mod laws;

@@ -1,4 +1,4 @@
-// The program as one call.
+// The whole program as one call.
 ghost use Rattle.std.specs.Prelude.{◌≡◌, ◌∷◌, [], Ok, IfOk, IfSome};
 ghost use Rattle.std.specs.Str.{bytes_eq};
 ghost use Rattle.answer_meaning.specs.ExchangeAnswer.{FromExchange};
@@ -23,13 +23,15 @@ use plex_num::{Memory, Seq, read_number};
 use std::alloc::Global;
 use text_parts::Text;
 
-/// The program: reads the exchange text that the words name, and writes the answer.
+/// Runs the program: reads the exchange text that the arguments name, and writes the answer to the
+/// sink.
 ///
-/// `words` are the command's words without the program's name. Where the shelf tells its files, the
-/// status and the text are those of the answer (`IsConflictsAnswer`), but for `Read` where a read
-/// failed, `Write` where the sink failed or is full, and then a proper front of the text was
-/// written, and `Memory`. With the status of a refusal, and no other, comes the fault whose line
-/// was written.
+/// `words` are the command's arguments without the program's name. Where the shelf's contents are
+/// known (`held`), status and text are those of the answer (`IsConflictsAnswer`). The only other
+/// outcomes are `Read` where the file is missing or a read failed, `Write` where the sink failed or
+/// is full (a proper prefix of the text has then been written), and `Memory` (out of memory). After
+/// `Read` and `Memory` nothing was written. `fault` is the reported fault exactly where the status
+/// is that of a refusal.
 #[tactic(auto, using(answer_meaning::proofs::Endings::ending))]
 pub fn plex_conflicts<S: Shelf, K: Sink>(
     alloc: Global,
@@ -74,7 +76,7 @@ pub fn plex_conflicts<S: Shelf, K: Sink>(
     }
 }
 
-/// The answer to the words.
+/// The answer to the arguments.
 fn answered<S: Shelf>(alloc: Global, words: &[Word], shelf: &mut S) -> Result<Answer, Stop>
     ensures answers { Answers (IsConflictsAnswer words.now) (S.held shelf.old) (S.faults shelf.old)
         (S.faults shelf.new) result }
@@ -87,7 +89,7 @@ fn answered<S: Shelf>(alloc: Global, words: &[Word], shelf: &mut S) -> Result<An
     }
 }
 
-/// What is told of all entries, where the word is the name of a file.
+/// The report on all entries, if the argument is a file name; else the usage line.
 #[tactic(auto, using(crate::proofs::Answering::all_rules))]
 fn tell_all<S: Shelf>(alloc: Global, shelf: &mut S, exchange: &Word) -> Result<Answer, Stop>
     ensures answers { Answers (IsConflictsAnswer (exchange.now ∷ [])) (S.held shelf.old)
@@ -100,7 +102,7 @@ fn tell_all<S: Shelf>(alloc: Global, shelf: &mut S, exchange: &Word) -> Result<A
     tell(alloc, shelf, exchange, None)
 }
 
-/// Whether a word alone asks for the help or the version of the program.
+/// Whether a single argument requests help or the version.
 fn is_own(word: &[u8]) -> bool
     ensures { result ≡ is_own word.now }
 {
@@ -113,7 +115,7 @@ fn is(word: &[u8], text: &[u8]) -> bool
     word == text
 }
 
-/// What is told of the pair of entries of these numbers, if both are numbers.
+/// The report on the pair of entries with these numbers; the usage line if one is no number.
 #[tactic(auto, using(crate::proofs::Answering::pair_rules))]
 fn tell_pair<S: Shelf>(
     alloc: Global,
@@ -133,7 +135,7 @@ fn tell_pair<S: Shelf>(
     }
 }
 
-/// The pair of entries that has these numbers; `None` where one of them is no number.
+/// The pair of entries with these numbers; `None` if one is no number.
 fn pair_of(first: &Word, later: &Word) -> Option<EntryPair>
     ensures { result ≡ asked_by first.now later.now }
 {
@@ -149,7 +151,7 @@ fn pair_of(first: &Word, later: &Word) -> Option<EntryPair>
     })
 }
 
-/// What is told of the exchange of a file.
+/// The report on the exchange of a file.
 #[tactic(auto, using(answer_meaning::proofs::Stages::performs_rules))]
 fn tell<S: Shelf>(
     alloc: Global,
@@ -166,7 +168,7 @@ fn tell<S: Shelf>(
     Ok(answer)
 }
 
-/// The answer with the conflicts of an exchange, and behind them its additions.
+/// The answer with the conflicts of an exchange, then its additions.
 fn conflicts_answer(
     alloc: Global,
     exchange: &Exchange,
