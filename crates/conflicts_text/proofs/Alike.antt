@@ -1,4 +1,4 @@
--- Rows by what is known of an entry are those by the least facts.
+-- Rows by the known facts of an entry are those by the least fixed point.
 use Rattle.std.proofs.Common.{inl, inr, ℕ, List, refl}
 use Rattle.plex_num.specs.declared.level.Level.{Level}
 use Rattle.exchange_model.specs.declared.exchange.Exchange.{Exchange}

@@ -1,4 +1,4 @@
--- What fits into a room, or does not.
+-- What fits into the room left, and what does not.
 use Rattle.std.proofs.Common.{◌≡◌, ℕ, ◌<◌, ◌≤◌, List, length, Option, Some, None, sym, subst}
 use Rattle.exchange_model.specs.declared.exchange.Exchange.{Exchange}
 use Rattle.entry_summary.specs.declared.summary.Summary.{Summary}
@@ -26,7 +26,7 @@ module _ {R : Type 0} (All Few : List R → Type 0) (lines : List R → List ℕ
   pub rows_are_more : o ≡ None → (rows : List R) × Few rows × (room < length (lines rows))
   rows_are_more is = subst (RowsWithin All Few lines room) is within
 
--- a whole text is lines of itself
+-- a whole text consists of its lines
 
 pub entry_lines : (x : Exchange) (summaries : List Summary) (e : ℕ) (text : List ℕ) → IsEntryText x summaries e text → HasEntryLines x summaries e text
 entry_lines x summaries e text h = record {

@@ -1,4 +1,4 @@
--- Lists over ranges of numbers, one number after the other.
+-- Lists over ranges of numbers, built one number at a time.
 use Rattle.std.proofs.Common.{◌≡◌, ℕ, ◌+◌, ◌≤◌, List, [], ◌∷◌, ◌++◌, map, sym, ap, ◌∙◌, subst}
 use Rattle.std.proofs.Common.{arith, append_assoc, append-nil}
 use Rattle.std.specs.List.{range_with_len}

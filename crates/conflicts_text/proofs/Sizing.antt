@@ -1,4 +1,4 @@
--- Lines of rows, one after the other, and whether they take more than a room.
+-- Lines of rows, one after the other, and whether they exceed the room left.
 use Rattle.std.proofs.Common.{◌≡◌, ℕ, ◌+◌, ◌-◌, ◌<◌, ◌≤◌, Bool, true, false, nat_lt, List, [], ◌∷◌}
 use Rattle.std.proofs.Common.{◌++◌, length, drop, Some, refl, sym, ap, ◌∙◌, arith, append_assoc}
 use Rattle.std.proofs.Common.{append-nil, length-append}
@@ -13,7 +13,7 @@ module _ {R : Type 0} (f : R → List ℕ) (rows : List R) (room : ℕ) where
   abbrev size_of : List R → ℕ
   size_of l = length (flat_map f l)
 
-  -- so much of the room is left by the lines of the rows before a place
+  -- the lines of the rows before an index leave this much of the room
   pub record Leaves (place left : ℕ) : Type 0 where
     pub sum : length (flat_map f rows) + left ≡ room + length (flat_map f (drop place rows))
 
@@ -45,7 +45,7 @@ module _ {R : Type 0} (f : R → List ℕ) (rows : List R) (room : ℕ) where
       let most : size_of rows ≤ room = omega (arith, none, s) in
       is ∙ sym (le-ltb room (size_of rows) most)
 
-  -- the lines of the rows before a place are written, and fit
+  -- the lines of the rows before an index are written and fit
   pub record Written (place : ℕ) (text : List ℕ) : Type 0 where
     pub all : text ++ flat_map f (drop place rows) ≡ flat_map f rows
     pub fits : length text ≤ room

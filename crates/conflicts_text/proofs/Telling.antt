@@ -22,7 +22,7 @@ use Rattle.conflicts_text.proofs.Fitting.{lines_are_more, text_fits}
 use Rattle.conflicts_text.proofs.Within.{sections_within}
 
 module _ (T L : Section → List ℕ → Type 0) (most : ℕ) (all : List Section) where
-  -- the sections before a place are told, and so much room is left
+  -- the sections before an index are written, and this much room is left
   pub record Goes (place room : ℕ) (old now : List ℕ) : Type 0 where
     pub added : List ℕ
     pub is : now ≡ old ++ added
@@ -68,7 +68,7 @@ module _ (T L : Section → List ℕ → Type 0) (most : ℕ) (all : List Sectio
   goes_end place room old now new past made g =
       finished place room last_line old now new (subst (λ l. Told T L most l room last_line) (sym (drop_of_length-le all past)) (all_told room)) made g
 
--- the whole
+-- the whole text
 
 pub slice_within : (summaries : List Summary) (asked : Option EntryPair) (count : ℕ) (made slice : List Section)
     → count ≡ length summaries → made ≡ sections count asked → slice ≡ made → AllWithin (length summaries) slice

@@ -1,12 +1,12 @@
--- What fits into a room of so many bytes, or lines that do not.
+-- Texts that fit into this many bytes, and lines that do not.
 use Rattle.std.specs.Prelude.{ℕ, ◌<◌, ◌≤◌, List, length, Option, Some, None}
 
--- the text, which fits; or some of its lines, which do not
+-- the whole text, which fits; or else some of its lines do not fit
 abbrev pub TextWithin : (IsText HasLines : List ℕ → Type 0) → ℕ → Option (List ℕ) → Type 0
 TextWithin IsText HasLines room (Some text) = IsText text × (length text ≤ room)
 TextWithin IsText HasLines room None = (lines : List ℕ) × HasLines lines × (room < length lines)
 
--- all rows; or some whose lines do not fit
+-- all rows; or else the lines of some of them do not fit
 abbrev pub RowsWithin : {R : Type 0} → (All Few : List R → Type 0) → (List R → List ℕ) → ℕ
     → Option (List R) → Type 0
 RowsWithin {R} All Few lines room (Some rows) = All rows

@@ -1,4 +1,4 @@
--- What is made once of an exchange.
+-- What is computed once per exchange.
 use Rattle.std.specs.Prelude.{List, map}
 use Rattle.exchange_model.specs.declared.exchange.Exchange.{Exchange}
 use Rattle.flow_table.specs.declared.place.PlaceAt.{PlaceAt}
@@ -10,7 +10,7 @@ use Rattle.entry_accesses.specs.declared.numbers.CellNumbers.{CellNumbers}
 use Rattle.entry_accesses.specs.Numbered.{AreNumbers}
 use Rattle.certificate_meaning.specs.Summaries.{AreSummaries}
 
--- all are of the exchange
+-- all of these are those of the exchange
 pub record AreOf (x : Exchange) (table : FlowTable) (places : List PlaceAt) (numbers : CellNumbers)
     (summaries : List Summary) : Type 0 where
   pub rows : IsFlowTable x table

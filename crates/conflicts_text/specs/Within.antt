@@ -1,4 +1,4 @@
--- The entries of a section are there.
+-- The entries of a section exist.
 use Rattle.std.specs.Prelude.{ℕ, ◌<◌, List}
 use Rattle.std.specs.List.{Contains}
 use Rattle.conflicts_meaning.specs.declared.rows.Section.{Section}

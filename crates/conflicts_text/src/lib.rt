@@ -1,9 +1,9 @@
-// The text of the conflicts of an exchange.
+// Writes the conflicts of an exchange as a text.
 //
-// What goes in: an exchange with the summaries of its entries, and the pair of entries that is
-// asked for, if one is. What comes out: its analysis, and behind it the points whose statements
-// give what each entry does, and all that clashes of each pair. It does not know how facts are
-// found, nor how rows are.
+// In: an exchange with the summaries of its entries, and the pair of entries that is requested, if
+// any. Out: its analysis, then the program points that cause each access and each level of the
+// entries, and all conflicting accesses of each pair. The crate does not know how facts or rows are
+// found.
 #![tactic(auto)]
 
 mod lines;

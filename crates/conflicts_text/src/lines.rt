@@ -1,4 +1,4 @@
-// The lines of points and of clashes.
+// The AT and CLASH lines.
 ghost use Rattle.std.specs.Prelude.{◌≡◌, ◌<◌, ◌++◌, nat_lt, Some, flat_map, length, slice_get};
 ghost use Rattle.std.specs.Prelude.{IfOk, OnOk};
 ghost use Rattle.std.specs.Fmt.{decimal};
@@ -11,7 +11,7 @@ use exchange_model::Exchange;
 use plex_num::{Memory, Seq, add_number};
 use std::alloc::Global;
 
-/// The lines of the points of an entry; none where they take more bytes than the room.
+/// The AT lines of an entry; `None` if they take more than `room` bytes.
 pub(crate) fn point_lines(
     alloc: Global,
     exchange: &Exchange,
@@ -51,14 +51,14 @@ fn add_point(
     Ok(())
 }
 
-/// Appends a text, and behind it a number of 32 bits.
+/// Appends a text, then a number of 32 bits.
 fn add_short(text: &mut Seq<u8>, before: &[u8], number: u32) -> Result<(), Memory>
     ensures { OnOk result (text.new ≡ text.old ++ before.now ++ decimal number) }
 {
     add_number(text, before, u64::from(number))
 }
 
-/// The line of the text in which the statement at a point begins; 0 where there is none.
+/// The source line on which the statement at a point begins; 0 if there is none.
 fn line_at(exchange: &Exchange, point: u32) -> u32
     ensures { result ≡ line_of_point exchange.now point }
 {
@@ -68,7 +68,7 @@ fn line_at(exchange: &Exchange, point: u32) -> u32
     }
 }
 
-/// Whether the lines of these points of an entry take more bytes than the room.
+/// Whether the AT lines of these points take more than `room` bytes.
 pub(crate) fn points_outgrow(
     alloc: Global,
     exchange: &Exchange,
@@ -90,7 +90,7 @@ pub(crate) fn points_outgrow(
     Ok(false)
 }
 
-/// How many bytes the line of a point takes.
+/// The length of an AT line in bytes.
 fn point_size(
     alloc: Global,
     exchange: &Exchange,
@@ -104,7 +104,7 @@ fn point_size(
     Ok(line.len())
 }
 
-/// The row of a point at a place.
+/// The row of a point, by its index.
 fn row_at(rows: &[GivenAt], place: usize) -> GivenAt
     requires { place < length rows.now }
     ensures { slice_get rows.now place ≡ Some result }
@@ -112,7 +112,7 @@ fn row_at(rows: &[GivenAt], place: usize) -> GivenAt
     rows[place]
 }
 
-/// The lines of what clashes of a pair; none where they take more bytes than the room.
+/// The CLASH lines of a pair; `None` if they take more than `room` bytes.
 pub(crate) fn clash_lines(
     alloc: Global,
     pair: EntryPair,
@@ -133,7 +133,7 @@ pub(crate) fn clash_lines(
     Ok(Some(text))
 }
 
-/// The row of a clash at a place.
+/// The row of a conflict, by its index.
 fn clash_at(rows: &[ClashRow], place: usize) -> ClashRow
     requires { place < length rows.now }
     ensures { slice_get rows.now place ≡ Some result }
@@ -141,7 +141,7 @@ fn clash_at(rows: &[ClashRow], place: usize) -> ClashRow
     rows[place]
 }
 
-/// `CLASH i j k l`, or `CLASH i j k` of a level.
+/// `CLASH i j k l`, or `CLASH i j k` for a level.
 fn add_clash(text: &mut Seq<u8>, pair: EntryPair, row: &ClashRow) -> Result<(), Memory>
     ensures { OnOk result (text.new ≡ text.old ++ clash_text pair row.now) }
 {
@@ -164,7 +164,7 @@ fn add_later(text: &mut Seq<u8>, clash: Clash, later: usize) -> Result<(), Memor
     }
 }
 
-/// That more than so many bytes are not told.
+/// The LIMIT line: the text would exceed this many bytes.
 pub(crate) fn limit_text(alloc: Global, most: usize) -> Result<Seq<u8>, Memory>
     ensures { IfOk result (λ text. text ≡ limit_line most) }
 {

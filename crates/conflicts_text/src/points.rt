@@ -1,4 +1,4 @@
-// The points of an entry whose lines are told.
+// The points of an entry whose lines are written.
 ghost use Rattle.std.specs.Prelude.{◌≡◌, flat_map, map, IfOk};
 ghost use Rattle.flow_table.specs.Texts.{AreReachedAmong, seen};
 ghost use Rattle.fact_rows.specs.Known.{Knows};
@@ -15,12 +15,12 @@ use flow_table::PlaceAt;
 use plex_num::{Memory, Seq};
 use std::alloc::Global;
 
-/// How many bytes the line of a point takes at least: of more points than the room has such lines,
-/// the lines are too long.
+/// The least length of an AT line in bytes. With more points than the room has lines of this
+/// length, the lines do not fit.
 const LEAST_LINE: usize = 22;
 
-/// All points of the entry of a number; none where the lines of some of them take more bytes than
-/// the room. The places are those that are reached. Memory is the only reason for an error.
+/// All points of the entry with this number; `None` if the lines of some of them take more than
+/// `room` bytes. `places` are the reached ones. The only error is out of memory.
 pub(crate) fn points_within(
     alloc: Global,
     of: &KnownEntry<'_>,
@@ -46,7 +46,7 @@ pub(crate) fn points_within(
     }
 }
 
-/// The same, where some of the points are known.
+/// The same where some of the points are known, of which the lines may already be too long.
 fn points_beyond(
     alloc: Global,
     of: &KnownEntry<'_>,

@@ -1,4 +1,4 @@
-// Which sections are told.
+// Which sections are written.
 ghost use Rattle.std.specs.Prelude.{◌≡◌, ◌++◌, ◌&&◌, nat_eq, nat_lt, map, IfOk, OnOk, Some};
 ghost use Rattle.std.specs.List.{range_with_len};
 ghost use Rattle.conflicts_meaning.specs.declared.rows.Section.TheVariants as section;
@@ -9,7 +9,7 @@ use conflicts_meaning::{EntryPair, Section};
 use plex_num::{Memory, Seq};
 use std::alloc::Global;
 
-/// The sections that are told of so many entries: all, or those of the pair that is asked for.
+/// The sections of `count` entries: all of them, or those of the requested pair.
 pub fn asked_sections(
     alloc: Global,
     count: usize,
@@ -23,7 +23,7 @@ pub fn asked_sections(
     }
 }
 
-/// Those of one pair; none where an entry of it is not there.
+/// The sections of one pair; empty if one of its entries does not exist.
 #[tactic(auto, using(crate::proofs::Sectioned::pair_told, crate::proofs::Sectioned::none_told))]
 fn one(alloc: Global, count: usize, pair: EntryPair) -> Result<Seq<Section>, Memory>
     ensures { IfOk result (λ made. made ≡ sections_of count (Some pair)) }

@@ -22,7 +22,7 @@ use plex_num::{Memory, Seq};
 use std::alloc::Global;
 use text_parts::Text;
 
-/// What is made once of an exchange.
+/// What is computed once per exchange.
 #[derive(Clone, Copy)]
 pub struct Means<'a> {
     pub exchange: &'a Exchange,
@@ -32,8 +32,8 @@ pub struct Means<'a> {
     pub summaries: &'a Summaries,
 }
 
-/// Appends the texts of the sections, and the last line; less where they are more than the most
-/// bytes that are told.
+/// Appends the texts of the sections, and the last line. Stops with the LIMIT line where the next
+/// section would exceed `most` bytes in all.
 pub(crate) fn add_sections(
     text: &mut Text,
     alloc: Global,
@@ -68,7 +68,7 @@ pub(crate) fn add_sections(
     Ok(())
 }
 
-/// Appends that more than so many bytes are not told.
+/// Appends the LIMIT line.
 fn add_limit(text: &mut Text, alloc: Global, most: usize) -> Result<(), Memory>
     ensures { OnOk result (text.new ≡ text.old ++ limit_line most) }
 {
@@ -83,7 +83,7 @@ fn add_last(text: &mut Text) -> Result<(), Memory>
     text.append(b"END CONFLICTS\n")
 }
 
-/// The section at a place.
+/// The section at an index.
 fn section_at(sections: &[Section], place: usize) -> Section
     requires { place < length sections.now }
     ensures { slice_get sections.now place ≡ Some result }
@@ -91,7 +91,7 @@ fn section_at(sections: &[Section], place: usize) -> Section
     sections[place]
 }
 
-/// The text of a section; none where some lines of it take more bytes than the room.
+/// The text of a section; `None` if some lines of it take more than `room` bytes.
 fn section_text(
     alloc: Global,
     means: &Means<'_>,
@@ -114,8 +114,8 @@ fn section_text(
     }
 }
 
-/// All points of an entry; none where some lines of them take more bytes than the room. What its
-/// jobs may have before each is found once more.
+/// The AT lines of an entry; `None` if some of them take more than `room` bytes. Computes the
+/// entry's facts once more.
 fn entry_text(
     alloc: Global,
     means: &Means<'_>,
@@ -154,8 +154,7 @@ fn entry_text(
     Ok(text)
 }
 
-/// All that clashes of the entries of a pair; none where some lines of it take more bytes than the
-/// room.
+/// The CLASH lines of a pair; `None` if some of them take more than `room` bytes.
 fn pair_text(
     alloc: Global,
     summaries: &Summaries,

@@ -1,4 +1,4 @@
-// The text.
+// The whole text.
 ghost use Rattle.std.specs.Prelude.{◌≡◌, IfOk};
 ghost use Rattle.certificate_meaning.specs.Summaries.{AreSummaries};
 ghost use Rattle.conflicts_meaning.specs.Told.{AreConflicts};
@@ -16,9 +16,9 @@ use plex_num::Memory;
 use std::alloc::Global;
 use text_parts::Text;
 
-/// The conflicts of an exchange whose entries have these summaries, of all entries or of the pair
-/// that is asked for: the analysis, the points that give each access and each level of the entries,
-/// and all that clashes. Memory is the only reason for an error.
+/// The conflicts of an exchange whose entries have these summaries, for all entries or for the
+/// requested pair: the analysis, the points that cause each access and each level of the entries,
+/// and all conflicting accesses. The only error is out of memory.
 pub fn conflicts(
     alloc: Global,
     exchange: &Exchange,
