@@ -1,4 +1,4 @@
--- What is read of a text is in the ranges that its printer asks for.
+-- What is read from a text is within the ranges that its printer requires.
 use Rattle.std.proofs.Common.{ℕ, List}
 use Rattle.std.specs.Prelude.{All}
 use Rattle.machine_code.specs.Coded.{Code}

@@ -30,7 +30,7 @@ use Rattle.shared_store.specs.Loans.{FitsBeside, borrower, unlent}
 use Rattle.shared_store.specs.Seats.{JobView, RootView, StoreId}
 use Rattle.job_runner.specs.Runs.{IsReady}
 
--- ## The root of words of which nothing is lent
+-- ## The root of words without loans
 
 pub root_home : (store : StoreId) (root : RootView) (words : List ℕ) → root ≡ (store, unlent words) → root.0 ≡ store
 root_home store root words is = ap (λ (r : RootView). r.0) is
@@ -62,7 +62,7 @@ first_may_run x b words start is words_are valid = record {
     next true same = sym same
     next false same = absurd (none-some start (sym same))
 
--- it is ready to run on a loan of all words
+-- the job is ready to run on a loan of all words
 pub ready_on_all : (x : Exchange) (code : Code) (store : StoreId) (root : RootView) (words : List ℕ) (start : JobStart)
     (p : Permit) (seat : JobView) (run : Private) (n : ℕ) → n ≡ x.cells → IsExchange x → MayRun x start words
     → p.writes ≡ record { first = 0; count = n; stride = 1 } ∷ []

@@ -1,4 +1,4 @@
--- What is made of texts.
+-- Values that are built from texts.
 use Rattle.std.proofs.Common.{◌≡◌, ℕ, ◌≤◌, ◌<◌, ◌^◌, true, List, [], length, map, Result, Ok, Err}
 use Rattle.std.proofs.Common.{IfOk, refl, sym, subst, ap, ◌∙◌, arith}
 use Rattle.std.specs.List.Sorted.{IsStrictlySortedBy}

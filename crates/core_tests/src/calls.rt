@@ -1,4 +1,4 @@
-// Calls that no command makes: what they answer, where memory is ample.
+// Tests of public calls that no command makes.
 ghost use Rattle.std.specs.Prelude.{All};
 ghost use Rattle.machine_code.specs.Operands.{OpFits};
 
@@ -20,7 +20,7 @@ use std::alloc::Global;
 use std::test::Fail;
 use store_layout::layout_of;
 
-/// The listing of one instruction, at which the only entry begins.
+/// A listing with one instruction, at which the only entry begins.
 const ONE_LINE: &str = "PLEX CODE 1\nENTRY 0 0\nLDI 15 7\nEND CODE\n";
 
 /// There is no register 16.
@@ -28,7 +28,7 @@ const LARGE_OPERAND: &str = "PLEX CODE 1\nENTRY 0 0\nLDI 16 7\nEND CODE\n";
 
 const NO_NUMBER: &str = "PLEX CODE 1\nENTRY 0 0\nLDI 15\nEND CODE\n";
 
-/// The code that a text lists; `Memory` where the text is too large.
+/// The code of a listing; `Memory` if the text is too large.
 fn code_of(alloc: Global, text: &[u8]) -> Result<Code, ListFault> {
     if text.len() > MOST_BYTES {
         return Err(ListFault::Memory);
@@ -36,7 +36,7 @@ fn code_of(alloc: Global, text: &[u8]) -> Result<Code, ListFault> {
     read_code(alloc, text)
 }
 
-/// The listing of the code that a text lists.
+/// Reads a listing and prints the code again.
 #[tactic(auto, using(crate::proofs::Fits::listed_fits))]
 fn listed_again(alloc: Global, text: &[u8]) -> Result<Seq<u8>, NotMade> {
     if text.len() > MOST_BYTES {
@@ -51,7 +51,8 @@ fn listed_again(alloc: Global, text: &[u8]) -> Result<Seq<u8>, NotMade> {
     }
 }
 
-/// Whether the code that a listing gives back has that listing too, which no other code has.
+/// Whether the code's listing is unchanged when read and printed again. Different codes have
+/// different listings.
 fn comes_back(alloc: Global, code: &Code) -> Result<bool, NotMade>
     requires { All OpFits code.now.ops }
 {
@@ -60,7 +61,7 @@ fn comes_back(alloc: Global, code: &Code) -> Result<bool, NotMade>
     Ok(again.as_slice() == text.as_slice())
 }
 
-/// The same of the code of an exchange.
+/// The same for the code of an exchange.
 fn code_comes_back(alloc: Global, exchange: &str) -> Result<bool, NotMade> {
     let exchange = exchange_of(alloc, exchange)?;
     let layout = layout_of(alloc, &exchange)?;
@@ -80,7 +81,7 @@ fn a_listing_is_read(rt: HostRuntime) -> Result<(), Fail> {
     Ok(())
 }
 
-/// The text of the certificate that a text tells.
+/// Reads a certificate and prints it again.
 #[tactic(auto, using(crate::proofs::Making::told_rises, crate::proofs::Fits::told_fits))]
 fn certified_again(alloc: Global, text: &str) -> Result<Seq<u8>, NotMade> {
     let text = text.as_bytes();
@@ -103,8 +104,7 @@ fn a_certificate_is_printed(rt: HostRuntime) -> Result<(), Fail> {
     Ok(())
 }
 
-/// The certificate of an exchange, but with its facts from the last to the first, and then all of
-/// them once more.
+/// The certificate of an exchange, with its facts in reverse order and then all of them once more.
 fn turned(alloc: Global, exchange: &Exchange) -> Result<Certificate, NotMade> {
     let Certificate { shape, facts } = certificate_of(alloc, exchange)?;
     let mut copies = Seq::new(alloc);
@@ -129,7 +129,7 @@ fn facts_may_stand_in_any_order(rt: HostRuntime) -> Result<(), Fail> {
     Ok(())
 }
 
-/// The verdict and the tests of two entries.
+/// The verdict and the tests for two entries.
 fn judged(
     alloc: Global,
     checked: &Checked,
@@ -143,15 +143,14 @@ fn judged(
     Ok((verdict(checked, first, later), asked))
 }
 
-/// The same of two entries of the table.
+/// The same for two entries of TABLE.
 fn judged_in_table(alloc: Global, first: u32, later: u32) -> Result<(Verdict, Seq<Test>), NotMade> {
     let exchange = exchange_of(alloc, TABLE)?;
     let checked = least_of(alloc, &exchange)?;
     judged(alloc, &checked, first, later)
 }
 
-/// Two jobs that put need other records and a forlopp of the first; one that looks reads all of
-/// them.
+/// Two PUT jobs need different records, and the first one a forlopp; a LOOK job reads all records.
 #[test]
 fn entries_are_judged(rt: HostRuntime) -> Result<(), Fail> {
     let (puts, asked) = judged_in_table(rt.alloc(), 0, 0)?;

@@ -1,4 +1,4 @@
-// Which events are allowed.
+// Tests which events of the core are allowed.
 ghost use Rattle.store_layout.specs.Laid.{IsLayout};
 ghost use Rattle.machine_meaning.specs.Faithful.{Faithful};
 ghost use Rattle.checked.specs.Kept.{IsChecked};
@@ -14,12 +14,12 @@ use std::alloc::Global;
 use std::test::Fail;
 use store_layout::{Layout, layout_of};
 
-/// What is told of a list of events.
+/// The result of a list of events.
 #[derive(Clone, Copy, Debug, PartialEq, Eq)]
 enum Told {
-    /// The event at this place, counted from 0, is the first that is not allowed.
+    /// The event at this index, from 0, is the first that is not allowed.
     Refused { at: u64 },
-    /// All are, and so many jobs stand in the window after them.
+    /// All are allowed, and this many jobs are in the window after them.
     Window { jobs: usize },
 }
 
@@ -63,7 +63,7 @@ fn told_on(
     told_of_core(alloc, exchange, lines, tried, &layout, &code, &checked)
 }
 
-/// What is told of events on the exchange of a text, by its own certificate.
+/// The result of these events on the exchange of a text, with its own certificate.
 fn told_at(
     alloc: Global,
     exchange: &str,

@@ -1,5 +1,5 @@
-// What a test is given, made of texts: an exchange, signal lines, a checked certificate, and what
-// stands after events.
+// Builds the inputs of tests from texts: an exchange, signal lines, a checked certificate, and the
+// state of the core after events.
 ghost use Rattle.std.specs.Prelude.{◌≡◌, ◌<◌, ◌≤◌, ◌^◌, [], length, map, IfOk};
 ghost use Rattle.plex_limits.specs.declared.limits.TheConstants.{MOST_BYTES, MOST_TOKENS};
 ghost use Rattle.plex_limits.specs.declared.limits.TheConstants.{MOST_WHENS};
@@ -33,10 +33,10 @@ use signal_file::{Known, Line, directory_of, read_signals};
 use std::alloc::Global;
 use store_layout::{Layout, opening};
 
-/// After how many jobs each run ends at the latest.
+/// The limit of jobs of each run.
 pub const MOST_JOBS_HERE: u64 = 100;
 
-/// Something was not made: its text is not right, or memory was refused.
+/// The input could not be built: its text has a fault, or out of memory.
 #[derive(Clone, Copy, Debug)]
 pub struct NotMade;
 
@@ -55,7 +55,7 @@ pub fn exchange_of(alloc: Global, text: &str) -> Result<Exchange, NotMade> {
     }
 }
 
-/// The tree that a text spells.
+/// The syntax tree of a text.
 #[tactic(auto, using(crate::proofs::Making::tree_has_few))]
 fn tree_of(alloc: Global, text: &[u8]) -> Result<Tree, NotMade>
     ensures kept { IfOk result IsKept }
@@ -70,7 +70,7 @@ fn tree_of(alloc: Global, text: &[u8]) -> Result<Tree, NotMade>
     }
 }
 
-/// The tree that these tokens spell.
+/// The syntax tree of these tokens.
 fn tree_of_tokens(alloc: Global, tokens: &Tokens<'_>) -> Result<Tree, NotMade>
     requires { length tokens.now ≤ MOST_TOKENS }
     ensures { IfOk result (λ t. Sentence t tokens.now) }
@@ -102,7 +102,7 @@ pub fn lines_of(alloc: Global, exchange: &Exchange, text: &str) -> Result<Seq<Li
     }
 }
 
-/// The certificate of an exchange, checked.
+/// The exchange's own certificate, checked.
 pub fn least_of(alloc: Global, exchange: &Exchange) -> Result<Checked, NotMade>
     ensures { IfOk result (IsChecked exchange.now) }
 {
@@ -110,7 +110,7 @@ pub fn least_of(alloc: Global, exchange: &Exchange) -> Result<Checked, NotMade>
     accepted(alloc, exchange, certificate)
 }
 
-/// The certificate that a text tells, checked.
+/// The certificate of a text, checked.
 pub fn told_by(alloc: Global, exchange: &Exchange, text: &str) -> Result<Checked, NotMade>
     ensures { IfOk result (IsChecked exchange.now) }
 {
@@ -124,7 +124,7 @@ pub fn told_by(alloc: Global, exchange: &Exchange, text: &str) -> Result<Checked
     }
 }
 
-/// A certificate that is one of the exchange, checked.
+/// Checks a certificate of the exchange.
 #[tactic(auto, using(certificate_meaning::proofs::Judging::accepted_is_checked))]
 pub fn accepted(
     alloc: Global,
@@ -139,7 +139,7 @@ pub fn accepted(
     }
 }
 
-/// The books before the first job: what is due of these lines has arrived.
+/// The books before the first job, after the arrivals that are due.
 pub fn books_of(alloc: Global, exchange: &Exchange, lines: Seq<Line>) -> Result<Books, Memory>
     requires fit { LinesFit exchange.now [] (map coming_of lines) }
     requires few { length lines < 2 ^ 32 }
@@ -156,14 +156,14 @@ pub fn books_of(alloc: Global, exchange: &Exchange, lines: Seq<Line>) -> Result<
     Ok(books)
 }
 
-/// Events to be tried, and how many workers there are.
+/// The events to try, and the number of workers.
 #[derive(Clone, Copy)]
 pub struct Tried<'a> {
     pub workers: u32,
     pub events: &'a [CoreEvent],
 }
 
-/// What stands after these events, the first of which comes before the first job.
+/// The state of the core after these events, of which the first comes before the first job.
 pub fn core_after(
     alloc: Global,
     exchange: &Exchange,

@@ -1,4 +1,4 @@
-// A job runs on words that are lent to it.
+// Tests a job that runs on a loan.
 ghost use Rattle.std.specs.Prelude.{◌≡◌, ◌<◌, ◌^◌, [], ◌∷◌, length, map, IfOk};
 ghost use Rattle.exchange_run.specs.Runs.{MayRun};
 ghost use Rattle.machine_meaning.specs.Faithful.{Faithful};
@@ -20,7 +20,7 @@ use std::alloc::Global;
 use std::test::Fail;
 use store_layout::{layout_of, opening};
 
-/// The permit of so many words, which lets each be written.
+/// A permit to write each of this many words.
 fn all_words(alloc: Global, count: u32) -> Result<Permit, Memory>
     ensures { IfOk result (λ p.
         p.writes ≡ record { first = 0; count = count; stride = 1 } ∷ []) }
@@ -37,14 +37,14 @@ fn all_words(alloc: Global, count: u32) -> Result<Permit, Memory>
     })
 }
 
-/// How many words the exchange has.
+/// The number of the exchange's words.
 fn count_of(exchange: &Exchange) -> u32
     ensures { result ≡ exchange.now.cells }
 {
     exchange.cells
 }
 
-/// How many instructions the job makes on these words, which are all lent to it.
+/// The number of instructions that the job executes on these words, all of them lent to it.
 fn steps_on(
     alloc: Global,
     exchange: &Exchange,
@@ -66,7 +66,7 @@ fn steps_on(
     Ok(run.steps())
 }
 
-/// The same of the first job of these lines.
+/// The same for the first job of these lines.
 fn steps_of_first(alloc: Global, exchange: &Exchange, lines: Seq<Line>) -> Result<u64, NotMade>
     requires fit { LinesFit exchange.now [] (map coming_of lines) }
     requires few { length lines < 2 ^ 32 }
@@ -82,14 +82,14 @@ fn steps_of_first(alloc: Global, exchange: &Exchange, lines: Seq<Line>) -> Resul
     }
 }
 
-/// The same of texts.
+/// The same for the exchange and the lines of two texts.
 fn steps_in(alloc: Global, exchange: &str, lines: &str) -> Result<u64, NotMade> {
     let exchange = exchange_of(alloc, exchange)?;
     let lines = lines_of(alloc, &exchange, lines)?;
     steps_of_first(alloc, &exchange, lines)
 }
 
-/// Its statements are the ENTER, a SEND and the EXIT.
+/// The job's statements are the ENTER, a SEND and the EXIT.
 #[test]
 fn a_job_runs_on_lent_words(rt: HostRuntime) -> Result<(), Fail> {
     let steps = steps_in(rt.alloc(), PARTS, TWO_ASKS)?;

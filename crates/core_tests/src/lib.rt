@@ -1,8 +1,8 @@
-// What no clause says of jobs that run at once: on small exchanges, which jobs may follow which,
-// and which events are allowed; and that calls which no command makes do answer.
+// Tests of what contracts do not state: on small exchanges, which jobs may run in parallel and
+// which events are allowed; and that public calls which no command makes give an answer.
 //
-// Nothing comes out. These tests make each exchange of its text, so they stand on the crates from
-// the lexer to the core.
+// The crate exports nothing. The tests build each exchange from its text, so the crate depends on
+// those from the lexer to the core.
 #![tactic(auto)]
 
 #[cfg(test)]

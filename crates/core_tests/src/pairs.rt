@@ -1,4 +1,4 @@
-// Which jobs may follow which.
+// Tests which jobs may run in parallel.
 use crate::given::{NotMade, books_of, exchange_of, least_of, lines_of, told_by};
 use crate::texts::{CALLS, LINES, LOOSE_TABLE, TABLE, TABLE_LINES};
 use checked::Checked;
@@ -10,8 +10,8 @@ use run_books::Books;
 use std::alloc::Global;
 use std::test::Fail;
 
-/// The places of two jobs in a list, the first in the single run and the later one, and whether
-/// they may run at once.
+/// The indices of two jobs in a list, first the one that comes first in the single run, and whether
+/// they may run in parallel.
 type Pair = (usize, usize, bool);
 
 /// The jobs of these lines, in the order in which they begin.
@@ -23,7 +23,7 @@ pub fn starts_of(alloc: Global, exchange: &Exchange, text: &str) -> Result<Seq<J
     Ok(starts)
 }
 
-/// All jobs that wait begin, one after the other, and none retires.
+/// Begins all waiting jobs, one after the other, without retiring any.
 fn begin_all(books: &mut Books, starts: &mut Seq<JobStart>) -> Result<(), Memory> {
     for _ in 0..100 {
         let Some(start) = books.next_job() else {
@@ -34,7 +34,7 @@ fn begin_all(books: &mut Books, starts: &mut Seq<JobStart>) -> Result<(), Memory
     Ok(())
 }
 
-/// Whether two jobs may run at once; `None` where an entry has no summary.
+/// Whether two jobs may run in parallel; `None` if an entry has no summary.
 fn follows(checked: &Checked, first: &JobStart, later: &JobStart) -> Option<bool> {
     if first.job.entry < checked.entries() && later.job.entry < checked.entries() {
         Some(may_follow(checked, first, later))
@@ -43,12 +43,12 @@ fn follows(checked: &Checked, first: &JobStart, later: &JobStart) -> Option<bool
     }
 }
 
-/// Whether two jobs of a list may run at once; `None` where one is not there.
+/// Whether two jobs of a list may run in parallel; `None` if there is no such job.
 fn follows_at(checked: &Checked, starts: &[JobStart], first: usize, later: usize) -> Option<bool> {
     follows(checked, starts.get(first)?, starts.get(later)?)
 }
 
-/// The place of the first of these pairs of which something else is so.
+/// The index of the first pair whose result differs from the expected one.
 fn first_wrong(checked: &Checked, starts: &[JobStart], pairs: &[Pair]) -> Option<usize> {
     for (place, (first, later, wanted)) in pairs.iter().enumerate() {
         if follows_at(checked, starts, *first, *later) != Some(*wanted) {
@@ -58,7 +58,7 @@ fn first_wrong(checked: &Checked, starts: &[JobStart], pairs: &[Pair]) -> Option
     None
 }
 
-/// The first wrong pair of the jobs of these lines, by a checked certificate.
+/// The first wrong pair among the jobs of these lines, by a checked certificate.
 fn wrong_by(
     alloc: Global,
     exchange: &Exchange,
@@ -70,7 +70,7 @@ fn wrong_by(
     Ok(first_wrong(checked, starts.as_slice(), pairs))
 }
 
-/// The same by the certificate of the exchange, or by that which a text tells.
+/// The same by the exchange's own certificate, or by that of a text.
 fn wrong_in(
     alloc: Global,
     exchange: &Exchange,
@@ -85,7 +85,7 @@ fn wrong_in(
     wrong_by(alloc, exchange, lines, &checked, pairs)
 }
 
-/// The same on the exchange of a text.
+/// The same for the exchange of a text.
 fn wrong_pair(
     alloc: Global,
     exchange: &str,
@@ -141,7 +141,7 @@ fn jobs_of_other_forlopps_may_run_at_once(rt: HostRuntime) -> Result<(), Fail> {
     Ok(())
 }
 
-/// The same job, whose forlopp holds this record.
+/// The same job, with this record in its forlopp's chain.
 fn holding(start: &JobStart, held: Held) -> JobStart {
     let mut chain = Chain::new();
     chain.push(held);
@@ -151,15 +151,15 @@ fn holding(start: &JobStart, held: Held) -> JobStart {
     }
 }
 
-/// Whether the first job may follow the third where the forlopp of the third holds a record of
-/// LINE; `None` where one of them is not there.
+/// Whether the first job may run beside the third one, which precedes it here and whose forlopp
+/// holds a record of LINE; `None` if there is no such job.
 fn first_follows_holder(checked: &Checked, starts: &[JobStart]) -> Option<bool> {
     let (call, digit) = (starts.get(0)?, starts.get(2)?);
     let holder = holding(digit, Held { file: 0, number: 1 });
     follows(checked, &holder, call)
 }
 
-/// The same of the call and the digit, by a checked certificate.
+/// The same for CALL and DIGIT, by a checked certificate.
 fn call_follows(
     alloc: Global,
     exchange: &Exchange,
@@ -169,13 +169,13 @@ fn call_follows(
     Ok(first_follows_holder(checked, starts.as_slice()))
 }
 
-/// The same in an exchange.
+/// The same for an exchange.
 fn call_follows_in(alloc: Global, exchange: &Exchange) -> Result<Option<bool>, NotMade> {
     let checked = least_of(alloc, exchange)?;
     call_follows(alloc, exchange, &checked)
 }
 
-/// The same in the exchange of forlopps that hold lines.
+/// The same for LINES.
 fn call_follows_holder(alloc: Global) -> Result<Option<bool>, NotMade> {
     let exchange = exchange_of(alloc, LINES)?;
     call_follows_in(alloc, &exchange)

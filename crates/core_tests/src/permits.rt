@@ -1,4 +1,4 @@
-// Which words jobs may read and write.
+// Tests which words jobs may read and write.
 use crate::given::{NotMade, exchange_of, least_of};
 use crate::pairs::starts_of;
 use crate::texts::{TABLE, TABLE_LINES};
@@ -13,7 +13,7 @@ use std::alloc::Global;
 use std::test::Fail;
 use store_layout::layout_of;
 
-/// The permit of a job of the exchange, where no forlopp holds a record.
+/// The permit of a job of the exchange, while no forlopp holds a record.
 fn permit_by(
     alloc: Global,
     exchange: &Exchange,
@@ -30,7 +30,7 @@ fn permit_by(
     Ok(permit)
 }
 
-/// The permit of the job at this place of those that the lines of the table start.
+/// The permit of the job at this index among those that TABLE_LINES start.
 fn permit_in_table(alloc: Global, place: usize) -> Result<Permit, NotMade> {
     let exchange = exchange_of(alloc, TABLE)?;
     let checked = least_of(alloc, &exchange)?;
@@ -41,7 +41,7 @@ fn permit_in_table(alloc: Global, place: usize) -> Result<Permit, NotMade> {
     }
 }
 
-/// Words that stand one behind the other.
+/// Consecutive words.
 fn span(first: u32, count: u32) -> Span {
     Span {
         first,
@@ -50,7 +50,7 @@ fn span(first: u32, count: u32) -> Span {
     }
 }
 
-/// A job that puts may write the one record that its signal names, and one that looks may read all.
+/// A PUT job may write only the record that its signal names, and a LOOK job may read all records.
 #[test]
 fn a_job_may_touch_the_words_that_its_start_names(rt: HostRuntime) -> Result<(), Fail> {
     let puts = permit_in_table(rt.alloc(), 2)?;

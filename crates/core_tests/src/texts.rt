@@ -1,4 +1,4 @@
-// The texts of small exchanges, with signal lines.
+// Small exchanges and their signal lines, as texts.
 
 /// PUT writes the record that its first value names, and LOOK searches all of them.
 pub const TABLE: &str = "SIGNAL PUT SINGLE BUFFERED B DATA 2;
@@ -26,7 +26,8 @@ AFTER 0 PUT TAB 5 13 NEW
 AFTER 0 LOOK TAB 12 NONE
 ";
 
-/// The least facts of the table, and that P may have any number where PUT writes and exits.
+/// The table's least fixed point, and the facts that P may have any value where PUT writes and
+/// exits.
 pub const LOOSE_TABLE: &str = "PLEX CERTIFICATE 2
 EXCHANGE signals 3 blocks 1 points 9 cells 8 entries 2 references 0
 FACT 0 0 T0 CONST 0
@@ -108,7 +109,7 @@ AFTER 0 DIGIT REG 0 7 AS 3
 AFTER 0 DIGIT REG 0 8 NONE
 ";
 
-/// ASK asks for a part in a forlopp of its own, which shows its value.
+/// ASK requests PART in a new forlopp, which shows its value.
 pub const PARTS: &str = "SIGNAL ASK SINGLE BUFFERED B DATA 1;
 SIGNAL PART SINGLE BUFFERED B DATA 1;
 SIGNAL SHOW OUTSIDE DATA 1;
@@ -134,13 +135,13 @@ AFTER 0 ASK Q 8 NONE
 AFTER 0 ASK Q 9 NONE
 ";
 
-/// The second line comes once a job has ended.
+/// The third line is due only after one job has ended.
 pub const LATE_ASKS: &str = "AFTER 0 ASK Q 7 NONE
 AFTER 0 ASK Q 8 NONE
 AFTER 1 ASK Q 9 NONE
 ";
 
-/// WORK sends QUICK, which goes before the next WORK.
+/// WORK sends QUICK, which runs before the next WORK.
 pub const LEVELS: &str = "SIGNAL WORK SINGLE BUFFERED B DATA 1;
 SIGNAL QUICK SINGLE BUFFERED A DATA 1;
 SIGNAL SEEN OUTSIDE DATA 2;
