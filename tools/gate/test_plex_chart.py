@@ -255,6 +255,13 @@ class Case:
         self.chart = chart_of(self.run, wishes())
         self.read = Reader(list(chart_words.mermaid(self.chart)))
 
+    def whole_jobs(self) -> List[Drawn]:
+        """The jobs that are drawn, with all of their arrows: a chart keeps the first steps of a
+        job, stores among them, and a choice looks at the whole job.
+        """
+        assert len(self.read.jobs) == len(self.account.told)
+        return [job._replace(arrows=told) for job, told in zip(self.read.jobs, self.account.told)]
+
     def trace(self) -> Iterator[List[str]]:
         """The words of the jobs of the trace."""
         for line in choice.traced(self.run, ["SHOW"], self.run.limit):
@@ -376,7 +383,7 @@ def test_choice_made_by_chance(
     except ORACLE.TooLong:
         tally.add("choices of jobs", {"passed over": 1}, least)
         return
-    jobs = [job for job in case.read.jobs if len(job.arrows) < MOST_STEPS]
+    jobs = case.whole_jobs()
     arrows = [arrow for job in jobs for arrow in job.arrows]
     signal = chance.choice([*(arrow.signal for arrow in arrows), jobs[0].signal]).split(" ")[0]
     block = chance.choice([*(arrow.target for arrow in arrows), jobs[0].block])
