@@ -39,6 +39,7 @@ LANE = re.compile(r"    participant L(\d+) as (\w+)")
 BESIDE = re.compile(r"    Note right of L(\d+): (.*)")
 OVER = re.compile(r"    Note over L0(?:,L\d+)?: (.*)")
 ENDS = re.compile(r" \((to job (\d+)|removed|later|never started)(?:, new F(\d+))?\)$")
+CUT = re.compile(r"([\d,]+) more steps? of this job left out")
 RAIL = re.compile(r'd="M([\d.]+) ([\d.]+)V([\d.]+)H([\d.]+)"')
 STORED = re.compile(r"(\w+(?:\(\d+\))?): (\d+) -> (\d+)(?: \((\d+) stores\))?")
 MADE: Any = made_exchange
@@ -201,6 +202,7 @@ class Reader:
         self.jobs: List[Drawn] = []
         self.marks: List[str] = []
         self.notes: List[Tuple[str, str]] = []
+        self.cut: Dict[int, int] = {}  # the jobs of which steps are left out, and how many
         self.lost = 0
         self.lanes = {found[1]: found[2] for found in map(LANE.fullmatch, lines) if found}
         assert lines[0] == "sequenceDiagram"
@@ -220,6 +222,9 @@ class Reader:
             self.begin(start[1], start[2], start[3], start[4], int(start[5]))
         elif beside:
             self.notes.append((self.lanes[beside[1]], beside[2]))
+            left_out = CUT.fullmatch(beside[2])
+            if left_out:
+                self.cut[self.jobs[-1].number] = int(left_out[1].replace(",", ""))
         elif over:
             self.marks.append(over[1])
             self.notes.append(("", over[1]))
@@ -277,16 +282,22 @@ def compare_jobs(case: Case) -> None:
     ]
     assert [job[:4] for job in case.read.jobs] == wanted
     for job, arrows in zip(case.read.jobs, case.account.told):
-        drawn = job.arrows[:MOST_STEPS]
-        assert drawn == arrows[: len(drawn)]
-        assert len(drawn) == len(arrows) or len(arrows) + len(drawn) > MOST_STEPS
+        drawn = len(job.arrows)
+        assert job.arrows == arrows[:drawn]
+        assert drawn <= MOST_STEPS
+        assert len(arrows) - drawn <= case.read.cut.get(job.number, 0)
 
 
 def compare_leads(case: Case) -> None:
-    """A signal leads to the job that says by which job it was sent, with the same signal."""
+    """A signal leads to the job that says by which job it was sent, with the same signal. One that
+    leads to a job is drawn, but for those among the steps that are left out.
+    """
     jobs = {job.number: job for job in case.read.jobs}
     sent = Counter((job.number, to) for job in jobs.values() for to in job.leads if to)
-    assert sent == Counter((job.sender, job.number) for job in jobs.values() if job.sender)
+    wanted = Counter((job.sender, job.number) for job in jobs.values() if job.sender)
+    assert not sent - wanted
+    undrawn = Counter(sender for sender, _ in (wanted - sent).elements())
+    assert all(count <= case.read.cut.get(job, 0) for job, count in undrawn.items())
     for job in jobs.values():
         buffered = [
             arrow for arrow in job.arrows if arrow.sign == "-)" and arrow.target != "outside"
