@@ -1,4 +1,4 @@
--- What is found is exactly what the jobs of the entry only add to.
+-- The lists found have exactly the variables and fields that the entry's jobs only add to.
 use Rattle.std.proofs.Common.{◌≡◌, ◌↔◌, inl, inr, ⊎_elim, ℕ, Bool, true, false, List, [], filter}
 use Rattle.std.proofs.Common.{map, Option, Some, None, refl, sym, ap, ◌∙◌, subst, arith}
 use Rattle.std.specs.Prelude.{option_and_then, slice_get}
@@ -80,7 +80,7 @@ found : (k : CellKind) (o : Option Access) (accesses : List Access) (i number : 
 found k None accesses i number at is = absurd (none-some number is)
 found k (Some a) accesses i number at is = record { access = a; there = at; of = is }
 
--- wherever a job of the entry may access it, the statement adds to it
+-- at each place where a job of the entry may access it, the statement adds to it
 
 abbrev pub OnlyAdds : Exchange → Facts → ℕ → CellKind → ℕ → Type 0
 OnlyAdds x P e k number = (at : Place) (point : ℕ) → StandsAt x point at → Reached P e point → (a : Access)
@@ -98,7 +98,7 @@ abbrev pub IsAddedOf : Exchange → Facts → ℕ → CellKind → ℕ → Type 
 IsAddedOf x P e kind.Variable number = IsAdded x P e number
 IsAddedOf x P e kind.Field number = IsAddedField x P e number
 
--- some access of the entry lists it
+-- some access of the entry puts it into the list
 abbrev pub IsListed : Exchange → Facts → ℕ → CellKind → ℕ → Type 0
 IsListed x P e k number = (a : Access) × IsAccess x P e a × (listed_by k a ≡ Some number)
 
@@ -122,7 +122,7 @@ added_to x P e kind.Field number h = ((Field h.write number h.selector, h.access
 
 module _ (x : Exchange) (P : Facts) (e : ℕ) (places : List Place) (s : Summary) (rows : List GivenAt)
     (are : ArePlaces x places) (sums : AreCells x P e s.accesses) (given : AreGiven x P e s rows) where
-  -- one of the rows is of this variable or field, to which the statement does not add
+  -- some row is of an access to this variable or field by a statement that does not add to it
   abbrev pub SomeOther : CellKind → ℕ → Type 0
   SomeOther k number = GivenBy (IsOtherAt x places s.accesses k) rows number
 
@@ -130,7 +130,7 @@ module _ (x : Exchange) (P : Facts) (e : ℕ) (places : List Place) (s : Summary
   gives r a there (inl h) = subst (λ b. GivesAccess x P e b r.point) (same_Some h.access a (sym h.there ∙ there)) h.gives
   gives r a there (inr h) = absurd (let low = slice_get_within s.accesses r.number a there in let at = h.number in omega (arith, low, at))
 
-  -- what is done besides is an access that is no addition
+  -- such a row means that some access is no addition
   other_breaks : (k : CellKind) (number : ℕ) → SomeOther k number → OnlyAdds x P e k number → ⊥
   other_breaks k number o only =
       let h = o.gives in
@@ -141,7 +141,7 @@ module _ (x : Exchange) (P : Facts) (e : ℕ) (places : List Place) (s : Summary
       let so = are_adds x g.at.block number k g.at.layer added in
       true≢false (sym so ∙ ap (λ (p : Place). adds x p.block k number p.layer) same ∙ h.adds_not)
 
-  -- where there is none, each access is an addition
+  -- without such a row, each access is an addition
   only_adds : (k : CellKind) (number : ℕ) → (SomeOther k number → ⊥) → OnlyAdds x P e k number
   only_adds k number none at point stands reached a of access = by (adds x at.block k number at.layer) refl
     where
@@ -188,7 +188,7 @@ module _ (x : Exchange) (P : Facts) (e : ℕ) (places : List Place) (s : Summary
       → Contains added number ↔ IsAddedOf x P e k number
   are_found k added h number = ((λ c. only_is k number (h.each number c)), (λ a. h.listed number (is_only k number a)))
 
--- so what is found is what the jobs of the entry only add to
+-- so the lists have what the entry's jobs only add to
 pub are_added : (x : Exchange) (P : Facts) (e : ℕ) (places : List Place) (s : Summary) (rows given : List GivenAt)
     (accesses : List Access) (variables fields : List ℕ) → ArePlaces x places → AreCells x P e s.accesses
     → AreGiven x P e s rows → accesses ≡ s.accesses → given ≡ rows
@@ -208,14 +208,14 @@ are_added x P e places s rows given accesses variables fields are sums rows_are 
       rising = record { variables = ones.rising; fields = twos.rising };
     }
 
--- a list that has what is added to none
+-- a list that is built from an empty one
 from_none : (old new : List ℕ) (G : ℕ → Type 0) → old ≡ [] → Adds old new G → (n : ℕ) → (Contains new n → G n) × (G n → Contains new n)
 from_none old new G none h n = (
   λ c. ⊎_elim (λ was. absurd (none_in n (subst (λ l. Contains l n) none was))) (λ g. g) (h.each n c),
   λ g. h.added n g,
 )
 
--- the listed ones of which there is no other row
+-- the listed numbers without any other row
 pub are_only : (x : Exchange) (places : List Place) (rows : List GivenAt) (k : CellKind)
     (start found others given begun added result : List ℕ) (taken : List Access)
     → start ≡ [] → Adds start found (GivenBy (IsOtherAt x places taken k) rows) → AreNumbers (Contains found) others → given ≡ others
@@ -241,7 +241,7 @@ are_only x places rows k start found others given begun added result taken none 
           })));
     }
 
--- accesses to variables and fields alone
+-- accesses to variables and fields only
 
 pub has_cells : (all some : List Access) → some ≡ filter is_cell_access all → HasCells all some
 has_cells all some is a cell = (

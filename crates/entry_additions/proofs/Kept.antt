@@ -1,4 +1,4 @@
--- What a filter leaves.
+-- What a filter keeps.
 use Rattle.std.proofs.Common.{◌≡◌, ⊎_elim, Bool, true, false, cond, List, [], ◌∷◌, filter, sym, ap}
 use Rattle.std.proofs.Common.{◌∙◌, subst, refl}
 use Rattle.std.specs.List.{Contains}

@@ -1,4 +1,4 @@
--- Whether an expression names a variable, or a field of any record, told by its parts.
+-- Whether an expression names a variable, or a field of any record, follows from its parts.
 use Rattle.std.proofs.Common.{◌≡◌, ℕ, Bool, true, false, ◌||◌, List, [], ◌∷◌, map, refl, sym, ap}
 use Rattle.std.proofs.Common.{◌∙◌}
 use Rattle.std.specs.List.{Contains, list_any}
@@ -56,7 +56,7 @@ module _ (n : Named) (f : Factor) where
   pub of_reference : (b : ℕ) → f ≡ factor.Reference b → false ≡ factor_names n f
   of_reference b is = ap names_of (sym (named-Reference b)) ∙ ap (factor_names n) (sym is)
 
--- as a list of names has it
+-- the same for a list of names
 
 pub found_among : (n : Named) (ns : List Named) → list_any (is_named n) ns ≡ true → (m : Named) × Contains ns m × (is_named n m ≡ true)
 found_among n [] is = cc

@@ -1,4 +1,4 @@
--- One number more, or none.
+-- One more number, or none.
 use Rattle.std.proofs.Common.{◌≡◌, ◌↔◌, ℕ, zero, suc, Bool, true, false, List, [], ◌∷◌, ◌++◌, map}
 use Rattle.std.proofs.Common.{Option, Some, None, sym, ◌∙◌, subst, IsTrue}
 use Rattle.std.specs.Prelude.{option_and_then, slice_get}
@@ -19,7 +19,7 @@ use Rattle.entry_additions.specs.Cells.{listed_by, number_in}
 use Rattle.entry_additions.specs.Others.{IsAlone, IsOther}
 use Rattle.entry_additions.specs.Sums.{adds}
 
--- no statement at a place of the list
+-- there is no statement at this index
 none_mapped : {A B : Type 0} (f : A → B) (xs : List A) (i : ℕ) → slice_get xs i ≡ None → (y : B) → slice_get (map f xs) i ≡ Some y → ⊥
 none_mapped f [] i none y some = none-some y some
 none_mapped f (x ∷ xs) zero none y some = none-some x (sym none)

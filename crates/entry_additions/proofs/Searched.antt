@@ -1,4 +1,4 @@
--- What a search among numbers in order tells.
+-- The result of a binary search in ordered numbers.
 use Rattle.std.proofs.Common.{◌≡◌, ◌⊎◌, inl, inr, ⊎_elim, ℕ, ◌<◌, ◌≤◌, List, length, get_or, Ok}
 use Rattle.std.proofs.Common.{Err, sym, ap, ◌∙◌, arith}
 use Rattle.std.specs.List.{Contains}

@@ -1,4 +1,4 @@
--- A statement adds to a variable or to a field exactly where the code says so.
+-- The code decides exactly whether a statement adds to a variable or a field.
 use Rattle.std.proofs.Common.{◌≡◌, ℕ, ◌+◌, ◌≤◌, Bool, true, false, cond, not, nat_eq, ◌&&◌, ◌||◌}
 use Rattle.std.proofs.Common.{List, [], ◌∷◌, ◌++◌, map, Option, Some, None, refl, sym, ap, ◌∙◌}
 use Rattle.std.proofs.Common.{subst, arith}
@@ -37,7 +37,7 @@ use Rattle.entry_additions.specs.Sums.{adds, is_alone, is_own, is_sum, is_the_na
 use Rattle.entry_additions.specs.Sums.{width_in}
 use Rattle.entry_additions.proofs.Named.{among_found, found_among}
 
--- a term that is the name alone
+-- a term that is only the name
 
 times_is : (by : FactorOp) → is_times by ≡ true → by ≡ Times
 times_is Times is = refl
@@ -161,7 +161,7 @@ module _ (n : Named) where
       by true here rest = absurd (let first = count_first t ts true here in omega (arith, first, is))
       by false here rest = (names_not n t here, rest (let first = count_first t ts false here in omega (arith, first, is)))
 
-  -- one that is the name alone is counted
+  -- a term that is only the name is counted
   own_counted : (ts : List Term) → list_any (is_own n) ts ≡ true → 1 ≤ count ts
   own_counted [] is = cc
   own_counted (t ∷ ts) is = by (is_own n t) refl is (own_counted ts)
@@ -170,7 +170,7 @@ module _ (n : Named) where
       by true here some rest = (let first = count_first t ts true (own_names n t (own_is n t here)) in omega (arith, first))
       by false here some rest = (let more = rest some in let first = sum_by-cons one t ts in omega (arith, more, first))
 
-  -- a list of terms parted at the name
+  -- a list of terms, split at the name
   record Parted (ts : List Term) : Type 0 where
     before : List Term
     own : Term
@@ -280,7 +280,7 @@ module _ (x : Exchange) (b number : ℕ) where
       (eq-eqb width 32 (ap (λ o. width_in o field) there ∙ wide)))
       (is_addition (NamedField file field pointer) e sum)
 
--- what the code says of a statement that sets a field
+-- the code's result for a statement that sets a field
 pub field_said : (x : Exchange) (b : ℕ) (k : CellKind) (number : ℕ) (l : Layer) (file field pointer : ℕ) (e : Expr)
     (of said : Bool) (own width : ℕ) (terms : List Term)
     → l ≡ stmt.SetField file field pointer e → of ≡ is_of_fields k → own ≡ field_number x file field

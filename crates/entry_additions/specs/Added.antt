@@ -1,4 +1,4 @@
--- The numbers of the variables and fields to which the jobs of an entry only add, in order.
+-- The numbers of the variables and fields that an entry's jobs only add to, in order.
 use Rattle.std.specs.Prelude.{ℕ}
 use Rattle.std.specs.List.Sorted.{IsStrictlySortedBy}
 use Rattle.std.specs.Ordering.{nat_cmp}
@@ -11,12 +11,12 @@ use Rattle.entry_additions.specs.declared.added.Added.{Added}
 abbrev pub targets : Added → Targets
 targets a = record { variables = a.variables; fields = a.fields }
 
--- both lists rise
+-- both lists are strictly ascending
 pub record AreRising (a : Added) : Type 0 where
   pub variables : IsStrictlySortedBy nat_cmp a.variables
   pub fields : IsStrictlySortedBy nat_cmp a.fields
 
--- exactly those to which the jobs of the entry only add, rising
+-- exactly those that the entry's jobs only add to, strictly ascending
 pub record AddsExactly (x : Exchange) (P : Facts) (entry : ℕ) (a : Added) : Type 0 where
   pub are : AreAdded x P entry (targets a)
   pub rising : AreRising a

@@ -1,4 +1,4 @@
--- The variables and the fields of plain files that accesses are to.
+-- The variables and the fields of plain files that accesses concern.
 use Rattle.std.specs.Prelude.{◌≡◌, ◌↔◌, ℕ, Bool, false, true, List, Option, Some, None}
 use Rattle.std.specs.List.{Contains}
 use Rattle.exchange_model.specs.declared.exchange.Exchange.{Exchange}
@@ -29,17 +29,18 @@ abbrev pub written_by : Access → Option ℕ
 written_by (Variable true number) = Some number
 written_by _ = None
 
--- the variable or the field that an access is to
+-- the variable or field that an access concerns
 abbrev pub number_in : CellKind → Access → Option ℕ
 number_in kind.Variable a = variable_of a
 number_in kind.Field a = field_of a
 
--- the variable that an access writes; a field that is added to is written, so any access to it does
+-- the variable that an access writes, or the field that it concerns, read or written: a field that
+-- is only added to is also written
 abbrev pub listed_by : CellKind → Access → Option ℕ
 listed_by kind.Variable a = written_by a
 listed_by kind.Field a = field_of a
 
--- those of these accesses that are to variables and to fields of plain files
+-- the accesses to variables and to fields of plain files
 
 abbrev pub is_cell_access : Access → Bool
 is_cell_access (Variable write number) = true

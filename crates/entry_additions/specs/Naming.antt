@@ -1,4 +1,4 @@
--- Whether expressions name a variable, or a field of any record, as a truth value.
+-- Whether expressions name a variable, or a field of any record, as a boolean.
 use Rattle.std.specs.Prelude.{ℕ, Bool, false, nat_eq, ◌&&◌}
 use Rattle.std.specs.List.{list_any}
 use Rattle.exchange_model.specs.declared.expr.Expr.{Expr}
@@ -10,12 +10,12 @@ use Rattle.source_meaning.specs.Named.{named_in_term}
 use Rattle.entry_additions.specs.declared.assigned.Assigned.{Assigned}
 use Rattle.entry_additions.specs.declared.assigned.Assigned.TheVariants as assigned
 
--- the name of what a statement gives a value
+-- the name of what a statement assigns to
 abbrev pub named_of : Assigned → Named
 named_of (assigned.Variable v) = NamedVariable v
 named_of (assigned.Field file field pointer) = NamedField file field pointer
 
--- the name is of this variable; of this field, of whatever record; of this field of this record
+-- the name is that of this variable; of this field in any record; of this field in this record
 
 abbrev pub is_variable_of : Named → ℕ → Bool
 is_variable_of (NamedVariable v) w = nat_eq w v
@@ -30,7 +30,7 @@ is_record_field_of (NamedVariable v) f g p = false
 is_record_field_of (NamedField file field pointer) f g p =
     nat_eq f file && nat_eq g field && nat_eq p pointer
 
--- another name is of the same variable, or of the same field
+-- another name is that of the same variable, or of the same field in any record
 abbrev pub is_named : Named → Named → Bool
 is_named n (NamedVariable w) = is_variable_of n w
 is_named n (NamedField f g p) = is_field_of n f g

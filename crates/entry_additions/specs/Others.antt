@@ -1,4 +1,4 @@
--- What a statement does something else to than adding, and that of which there is none.
+-- The uses of variables and fields other than additions, and the numbers that have none.
 use Rattle.std.specs.Prelude.{◌≡◌, ℕ, false, List, Some, option_and_then, slice_get}
 use Rattle.std.specs.List.{Contains}
 use Rattle.exchange_model.specs.declared.exchange.Exchange.{Exchange}
@@ -22,13 +22,13 @@ pub record IsOther (x : Exchange) (places : List Place) (accesses : List Access)
 abbrev pub IsOtherAt : Exchange → List Place → List Access → CellKind → ℕ → GivenAt → ℕ → Type 0
 IsOtherAt x places accesses k place r number = IsOther x places accesses k r number
 
--- the access lists this number, which is none of these
+-- the access lists this number, which is not among `others`
 pub record IsAlone (others : List ℕ) (k : CellKind) (place : ℕ) (access : Access) (number : ℕ)
     : Type 0 where
   pub lists : listed_by k access ≡ Some number
   pub none : Contains others number → ⊥
 
--- one of the accesses lists this number, and no row is of another use of it
+-- one of the accesses lists this number, and no row is of a use other than an addition
 pub record IsOnlyAdded (x : Exchange) (places : List Place) (accesses : List Access)
     (rows : List GivenAt) (k : CellKind) (number : ℕ) : Type 0 where
   pub access : Access

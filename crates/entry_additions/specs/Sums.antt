@@ -1,4 +1,4 @@
--- Whether a statement adds to a variable or to a field, as a truth value.
+-- Whether a statement adds to a variable or a field, as a boolean.
 use Rattle.std.specs.Prelude.{ℕ, Bool, true, false, nat_eq, not, ◌&&◌, List, [], ◌∷◌, Option}
 use Rattle.std.specs.Prelude.{slice_get}
 use Rattle.std.specs.Option.{option_map_or}
@@ -33,16 +33,16 @@ is_times Times = true
 is_times Divide = false
 is_times Modulo = false
 
--- these factors are the name alone
+-- the factors are the name and nothing else
 abbrev pub is_alone : Named → List Joined → Bool
 is_alone n (j ∷ []) = is_times j.by && is_the_name n (out-Factor j.factor)
 is_alone n _ = false
 
--- so is the term, which is not taken away
+-- the term is the name and nothing else, without a minus
 abbrev pub is_own : Named → Term → Bool
 is_own n t = not (out-Term t).minus && is_alone n (out-Term t).factors
 
--- one of these terms names the variable or field, and one is the name alone
+-- exactly one of the terms names the variable or field, and one is the name and nothing else
 abbrev pub is_sum : Named → List Term → Bool
 is_sum n ts = nat_eq (count_by (term_names n) ts) 1 && list_any (is_own n) ts
 

@@ -1,4 +1,4 @@
-// The variables and fields to which the jobs of an entry only add.
+// The variables and fields that an entry's jobs only add to.
 ghost use Rattle.std.specs.Prelude.{◌≡◌, ◌<◌, ℕ, Some, length, map, option_and_then, slice_get};
 ghost use Rattle.std.specs.Prelude.{IfOk, OnOk};
 ghost use Rattle.std.specs.List.Sorted.{IsStrictlySortedBy};
@@ -26,17 +26,17 @@ use flow_table::{PlaceAt, reached_places};
 use plex_num::{Memory, Seq};
 use std::alloc::Global;
 
-/// What the jobs of an entry only add to: variables, and fields of plain files in whatever record,
-/// by their numbers through the exchange, each rising.
+/// What an entry's jobs only add to: variables, and fields of plain files in any record, each by
+/// its number in the exchange. Both lists are strictly ascending.
 #[derive(Drop)]
 pub struct Added {
     pub variables: Seq<u32>,
     pub fields: Seq<u32>,
 }
 
-/// The variables and the fields of plain files to which the jobs of an entry only add. The summary
-/// is that of the entry by the facts that are known; the places are those of the exchange. Memory
-/// is the only reason for an error.
+/// The variables and the fields of plain files that an entry's jobs only add to. `summary` is that
+/// of the entry by the known facts; `places` are those of the exchange. The only error is out of
+/// memory.
 pub fn added_of(
     alloc: Global,
     of: &KnownEntry<'_>,
@@ -79,8 +79,8 @@ pub fn added_of(
     Ok(Added { variables, fields })
 }
 
-/// Of the variables that these accesses write, or of the fields that they are to, those of which no
-/// row is of another use.
+/// The variables that these accesses write, or the fields that they concern, without those that
+/// some row shows in another use.
 fn added_in(
     alloc: Global,
     exchange: &Exchange,
@@ -103,8 +103,8 @@ fn added_in(
     Ok(in_order(added))
 }
 
-/// Appends, for each of these rows, the variable or field that it is of, if the statement at its
-/// point does not add to it.
+/// Appends for each row its variable or field, if the statement at the row's point does not add to
+/// it.
 fn push_others(
     exchange: &Exchange,
     numbers: &CellNumbers,
@@ -126,7 +126,7 @@ fn push_others(
     Ok(())
 }
 
-/// The row at a place.
+/// The row at an index.
 fn row_at(rows: &[GivenAt], place: usize) -> GivenAt
     requires { place < length rows.now }
     ensures { slice_get rows.now place ≡ Some result }
@@ -164,7 +164,7 @@ fn push_other(
     Ok(())
 }
 
-/// The variable or field of the access at a place, if there is one, and it is of this kind.
+/// The variable or field of the access at an index, if there is one and it is of this kind.
 fn number_at(accesses: &[Access], place: usize, kind: CellKind) -> Option<u32>
     ensures { result ≡ option_and_then (number_in_access kind) (slice_get accesses.now place) }
 {
@@ -181,7 +181,7 @@ fn place_at<'a>(places: &[PlaceAt<'a>], point: u32) -> Option<PlaceAt<'a>>
     places.get(point as usize).copied()
 }
 
-/// Appends what is listed by these accesses, but for these numbers, which are in order.
+/// Appends the numbers that these accesses list, without `others`, which are in order.
 fn push_alone(
     accesses: &[Access],
     others: &[u32],
@@ -199,7 +199,7 @@ fn push_alone(
     Ok(())
 }
 
-/// The access at a place.
+/// The access at an index.
 fn access_at(accesses: &[Access], place: usize) -> Access
     requires { place < length accesses.now }
     ensures { slice_get accesses.now place ≡ Some result }

@@ -1,4 +1,4 @@
-// Whether a statement adds to a variable or to a field.
+// Whether a statement adds to a variable or a field (docs/ANALYSIS.md, Additions).
 ghost use Rattle.std.specs.Prelude.{◌≡◌, slice_get};
 ghost use Rattle.std.specs.List.{count_by, list_any};
 ghost use Rattle.exchange_model.specs.declared.expr.Factor.{out-Factor};
@@ -19,8 +19,8 @@ use crate::naming::term_names;
 use entry_accesses::CellNumbers;
 use exchange_model::{Exchange, Factor, FactorOp, FilePlace, Joined, StmtKind, Term};
 
-/// Whether a statement of a block adds to the variable or the field of this number through the
-/// exchange, which has all 32 bits.
+/// Whether a statement of a block adds to the variable or field with this number in the exchange,
+/// and its width is 32 bits.
 pub(crate) fn adds_to(
     exchange: &Exchange,
     numbers: &CellNumbers,
@@ -66,7 +66,7 @@ pub(crate) fn adds_to(
     }
 }
 
-/// The width of a variable of a block; 0 where there is none.
+/// The width of a variable of a block; 0 if there is none.
 fn width_of(exchange: &Exchange, block: u32, variable: u32) -> u8
     ensures { result ≡ variable_width exchange.now block variable }
 {
@@ -77,7 +77,7 @@ fn width_of(exchange: &Exchange, block: u32, variable: u32) -> u8
         .map_or(0, |variable| variable.width)
 }
 
-/// The width of a field of a file; 0 where there is none.
+/// The width of a field of a file; 0 if there is none.
 #[tactic(auto, using(crate::proofs::Widths::no_file, crate::proofs::Widths::file_there))]
 fn width_of_field(exchange: &Exchange, file: u32, field: u32) -> u8
     ensures { result ≡ width_in (slice_get (files_of exchange.now) file) field }
@@ -98,7 +98,7 @@ fn width_here(place: &FilePlace<'_>, field: u32) -> u8
         .map_or(0, |field| field.width)
 }
 
-/// Whether one of these terms is the name alone, and no other one names the same variable or field.
+/// Whether one of these terms is only the name, and no other one names the same variable or field.
 fn is_sum(terms: &[Term], of: Assigned) -> bool
     ensures { result ≡ is_sum_of (named_of of) terms.now }
 {
@@ -112,14 +112,14 @@ fn naming(terms: &[Term], of: Assigned) -> usize
     terms.iter().filter(|term| term_names(term, of)).count()
 }
 
-/// Whether one of these terms is the name alone.
+/// Whether one of these terms is only the name.
 fn has_own(terms: &[Term], of: Assigned) -> bool
     ensures { result ≡ list_any (is_own_of (named_of of)) terms.now }
 {
     terms.iter().any(|term| is_own(term, of))
 }
 
-/// Whether a term is the name alone, and is not taken away.
+/// Whether a term is only the name, without a minus.
 fn is_own(term: &Term, of: Assigned) -> bool
     ensures { result ≡ is_own_of (named_of of) term.now }
 {

@@ -1,10 +1,10 @@
-// What a statement gives a value.
+// The target of an assignment.
 ghost use Rattle.std.specs.Prelude.{◌≡◌};
 ghost use Rattle.entry_additions.specs.Naming.{is_field_of, is_record_field_of, is_variable_of};
 ghost use Rattle.entry_additions.specs.Naming.{named_of};
 
-/// A variable, by its place in the list of its block; or a field of a file, of the record whose
-/// number the temporary `pointer` has.
+/// A variable, by its index in its block; or a field of a file, in the record that the temporary
+/// `pointer` points to.
 #[derive(Clone, Copy)]
 pub(crate) enum Assigned {
     Variable { variable: u32 },
@@ -21,7 +21,7 @@ pub(crate) fn is_variable(of: Assigned, variable: u32) -> bool
     }
 }
 
-/// Whether it is this field, of whatever record.
+/// Whether it is this field, in any record.
 pub(crate) fn is_field(of: Assigned, file: u32, field: u32) -> bool
     ensures { result ≡ is_field_of (named_of of) file field }
 {
@@ -35,7 +35,7 @@ pub(crate) fn is_field(of: Assigned, file: u32, field: u32) -> bool
     }
 }
 
-/// Whether it is this field of the record of this temporary.
+/// Whether it is this field in the record that this temporary points to.
 pub(crate) fn is_record_field(of: Assigned, file: u32, field: u32, pointer: u8) -> bool
     ensures { result ≡ is_record_field_of (named_of of) file field pointer }
 {

@@ -1,4 +1,4 @@
-// What a summary has of variables and of fields of plain files.
+// The accesses of a summary to variables and to fields of plain files.
 ghost use Rattle.std.specs.Prelude.{◌≡◌, IfOk};
 ghost use Rattle.std.specs.List.{filter};
 ghost use Rattle.entry_additions.specs.Cells.{HasCells, field_of as field_of_access};
@@ -12,15 +12,15 @@ use entry_summary::{Access, Summary};
 use plex_num::{Memory, Seq};
 use std::alloc::{AllocError, Global};
 
-/// What is added to: variables, or fields of plain files.
+/// A kind of cell that can be added to: a variable, or a field of a plain file.
 #[derive(Clone, Copy)]
 pub enum CellKind {
     Variable,
     Field,
 }
 
-/// The accesses to variables and to fields of plain files that a summary has, in a summary without
-/// anything else.
+/// A summary with only those accesses of the given one that concern variables and fields of plain
+/// files.
 pub(crate) fn cells_in(alloc: Global, summary: &Summary) -> Result<Summary, Memory>
     ensures { IfOk result (λ some. HasCells summary.now.accesses some.accesses) }
 {
@@ -74,7 +74,7 @@ pub(crate) fn is_of_fields(kind: CellKind) -> bool
     }
 }
 
-/// The number of the variable, or of the field, that an access of this kind is to.
+/// The number of the variable or field that an access concerns, if it is of this kind.
 pub(crate) fn number_in(kind: CellKind, access: Access) -> Option<u32>
     ensures { result ≡ number_in_access kind access }
 {
@@ -84,7 +84,7 @@ pub(crate) fn number_in(kind: CellKind, access: Access) -> Option<u32>
     }
 }
 
-/// The number of the variable that an access writes; or of the field that it is to.
+/// The number of the variable that an access writes, or of the field that it concerns.
 pub(crate) fn listed_by(kind: CellKind, access: Access) -> Option<u32>
     ensures { result ≡ listed_by_access kind access }
 {

@@ -1,9 +1,9 @@
-// The variables and fields to which the jobs of an entry only add.
+// Finds the variables and fields that an entry's jobs only add to.
 //
-// What goes in: an exchange with its statements where they stand, the numbers of its variables and
-// fields, the summary of an entry, and the facts that are known of it. What comes out: the numbers
-// of these variables and of these fields of plain files, each rising; no more and no fewer than the
-// facts tell. It does not know how facts and summaries were found, nor what comes of additions.
+// In: an exchange with its statements, the numbers of its variables and fields, the summary of an
+// entry, and its known facts. Out: the numbers of these variables and of these fields of plain
+// files, strictly ascending, exactly as the facts imply. The crate does not know how facts and
+// summaries were found, or what additions are used for.
 #![tactic(auto)]
 
 mod added;

@@ -6,7 +6,7 @@ ghost use Rattle.entry_additions.specs.Naming.{named_of, term_names as term_has}
 use crate::assigned::{Assigned, is_field, is_variable};
 use exchange_model::{Expr, Factor, Term};
 
-/// Whether a term names a variable, or a field of any record, at whatever depth.
+/// Whether a term names a variable, or a field of any record, at any depth.
 #[cycle(names)]
 pub(crate) fn term_names(term: &Term, of: Assigned) -> bool
     ensures { result ≡ term_has (named_of of) term.now }

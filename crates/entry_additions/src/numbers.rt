@@ -1,4 +1,4 @@
-// Numbers in order.
+// Ordered lists of numbers.
 ghost use Rattle.std.specs.Prelude.{◌↔◌, IsTrue};
 ghost use Rattle.std.specs.List.{Contains};
 ghost use Rattle.std.specs.List.Sorted.{IsStrictlySortedBy};
@@ -7,7 +7,7 @@ ghost use Rattle.fact_rows.specs.Numbers.{AreNumbers};
 
 use plex_num::Seq;
 
-/// The same numbers in order, each once.
+/// Sorts the numbers and removes duplicates.
 pub(crate) fn in_order(numbers: Seq<u32>) -> Seq<u32>
     ensures { AreNumbers (Contains numbers) result }
 {
@@ -17,7 +17,7 @@ pub(crate) fn in_order(numbers: Seq<u32>) -> Seq<u32>
     Seq::from_vec(sorted)
 }
 
-/// Whether a number is among these, which are in order.
+/// Whether a number is among these, which must be strictly ascending.
 pub fn is_among(numbers: &[u32], number: u32) -> bool
     requires { IsStrictlySortedBy nat_cmp numbers.now }
     ensures { IsTrue result ↔ Contains numbers.now number }
