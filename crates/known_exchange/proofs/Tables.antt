@@ -1,4 +1,4 @@
--- The lines of a signal file, and the signals of a table merged with them.
+-- The lines of a signal file, and the signals of a table that are merged with them.
 use Rattle.std.proofs.Common.{◌≡◌, ℕ, ◌≤◌, ◌<◌, ◌^◌, List, length, Result, Ok, Err, ap, sym, subst}
 use Rattle.std.proofs.Common.{◌∙◌, arith}
 use Rattle.std.proofs.Math.Nat.{le_trans}
@@ -22,11 +22,11 @@ use Rattle.answer_meaning.specs.Text.{table_refusal}
 use Rattle.answer_meaning.specs.declared.answer.Stop.{Stop}
 use Rattle.answer_meaning.proofs.Stages.{refused_so}
 
--- a text that is not too large for a file
+-- a text within the size limit of files
 pub table_fits : (text : List ℕ) → length text ≤ MOST_BYTES → length text ≤ 2 ^ 24
 table_fits text small = le_trans small (omega arith)
 
--- the lines of a signal file fit, and are few
+-- the lines of a signal file fit the exchange, and there are fewer than 2^32
 pub lines_are_read : (x : Exchange) (text : List ℕ) (lines : List Line) → length text ≤ MOST_BYTES → Ok lines ≡ signal_lines x text → AreRead x lines
 lines_are_read x text lines small is = record {
   fit = signal_lines_fit x text lines (sym is);
@@ -36,7 +36,7 @@ lines_are_read x text lines small is = record {
 pub are_of_text : (x : Exchange) (text : List ℕ) (lines : List Line) → Ok lines ≡ signal_lines x text → AreOfText x lines
 are_of_text x text lines is = record { text = text; are = sym is }
 
--- the periods of a table, and what comes of them
+-- the periods of a table, and what follows from them
 pub table_read : (lines : List Line) (said : Result (List Period) TableFault) (periods : List Period)
     (r : Result (List Line) Stop) → Ok periods ≡ said → ReadAs (Ok (merged lines periods)) r
     → ReadAs (goes_on (or_refused table_refusal said) (λ ps. Ok (merged lines ps))) r
@@ -49,13 +49,13 @@ table_refused lines said f s is stops = refused_so
     (goes_on (or_refused table_refusal said) (λ ps. Ok (merged lines ps))) (table_refusal f) s
     (ap (λ s. goes_on (or_refused table_refusal s) (λ ps. Ok (merged lines ps))) (sym is)) stops
 
--- how many merged lines there are
+-- the number of merged lines
 pub length-merged : (lines : List Line) (periods : List Period) → length (merged lines periods) ≡ line_count lines periods
 length-merged lines periods =
     let sorted = by_count (all_lines lines periods) in
     length-numbered (number_in sorted) 1 sorted ∙ length-by_count (all_lines lines periods) ∙ length-all_lines lines periods
 
--- merged lines fit the exchange, and are few
+-- merged lines fit the exchange, and there are fewer than 2^32
 pub merged_are_read : (x : Exchange) (lines all : List Line) (table : List ℕ) (periods : List Period)
     → AreOfText x lines → Ok periods ≡ table_periods x (length lines) table → line_count lines periods < 2 ^ 32
     → all ≡ merged lines periods → AreRead x all

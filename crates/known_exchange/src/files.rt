@@ -1,4 +1,4 @@
-// What files hold: a text, an exchange, signal lines, or the answer at the first fault.
+// The contents of files: a text, an exchange, signal lines, or the answer at the first fault.
 ghost use Rattle.std.specs.Prelude.{◌≡◌, ◌≤◌, IfOk, IfSome, length};
 ghost use Rattle.plex_limits.specs.declared.limits.TheConstants.{MOST_BYTES};
 ghost use Rattle.answer_meaning.specs.Stages.{Comes, ReadAs};
@@ -16,8 +16,8 @@ use refusal_lines::{signals_stop, source_stop};
 use signal_file::{Known, Line, SignalsFault, SignalsRule, directory_of, read_signals};
 use std::alloc::Global;
 
-/// The text of a file, where it is not too large; none where it is. It stops where the file cannot
-/// be read, and where memory is refused.
+/// The text of a file; `None` if it is above the size limit. Stops where the file is missing or
+/// cannot be read, or out of memory.
 #[tactic(auto, using(answer_meaning::proofs::Stages::text_comes, answer_meaning::proofs::Stages::text_absent))]
 pub fn text_in<S: Shelf>(alloc: Global, shelf: &mut S, name: &Word) -> Result<Option<Seq<u8>>, Stop>
     ensures comes { Comes (S.held shelf.old) (text_at name.now) (S.faults shelf.old)
@@ -33,8 +33,8 @@ pub fn text_in<S: Shelf>(alloc: Global, shelf: &mut S, name: &Word) -> Result<Op
     }
 }
 
-/// The exchange of a file, or the first fault of its text. It stops where the file cannot be read,
-/// and wherever memory is refused.
+/// The exchange of a file. Stops where the file is missing or cannot be read, at the first fault of
+/// its text, or out of memory.
 pub fn exchange_in<S: Shelf>(alloc: Global, shelf: &mut S, name: &Word) -> Result<Exchange, Stop>
     ensures comes { Comes (S.held shelf.old) (exchange_at name.now) (S.faults shelf.old)
         (S.faults shelf.new) result }
@@ -43,7 +43,7 @@ pub fn exchange_in<S: Shelf>(alloc: Global, shelf: &mut S, name: &Word) -> Resul
     exchange_as(alloc, shelf, name, Which::First)
 }
 
-/// The same of the first exchange of a command, or of another one.
+/// The same; `which` says which of the command's exchange texts the file is.
 #[tactic(auto, using(answer_meaning::proofs::Stages::comes_rules))]
 pub fn exchange_as<S: Shelf>(
     alloc: Global,
@@ -59,8 +59,8 @@ pub fn exchange_as<S: Shelf>(
     exchange_of_file(alloc, which, &text)
 }
 
-/// The exchange that a file's text means, which may be too large. It stops at the first fault of
-/// the text, and where memory is refused.
+/// The exchange of a file's text; `None` is a text above the size limit. Stops at the first fault
+/// of the text, or out of memory.
 #[tactic(auto, using(answer_meaning::proofs::Stages::refused_rules))]
 pub fn exchange_of_file(
     alloc: Global,
@@ -76,7 +76,7 @@ pub fn exchange_of_file(
     }
 }
 
-/// The exchange of a file, with what it has by its names. It stops as `exchange_in` does.
+/// The exchange of a file, with its directory of names. Stops as `exchange_in` does.
 #[tactic(auto, using(answer_meaning::proofs::Stages::comes_rules))]
 pub fn known_in<S: Shelf>(alloc: Global, shelf: &mut S, name: &Word) -> Result<KnownExchange, Stop>
     ensures comes { Comes (S.held shelf.old) (exchange_at name.now) (S.faults shelf.old)
@@ -87,7 +87,7 @@ pub fn known_in<S: Shelf>(alloc: Global, shelf: &mut S, name: &Word) -> Result<K
     known_of_file(alloc, &text)
 }
 
-/// The same of a file's text, which may be too large.
+/// The same for a file's text; `None` is a text above the size limit.
 #[tactic(auto, using(answer_meaning::proofs::Stages::reads_memory))]
 pub fn known_of_file(alloc: Global, text: &Option<Seq<u8>>) -> Result<KnownExchange, Stop>
     requires { IfSome text.now (λ t. length t ≤ MOST_BYTES) }
@@ -98,8 +98,8 @@ pub fn known_of_file(alloc: Global, text: &Option<Seq<u8>>) -> Result<KnownExcha
     Ok(KnownExchange { exchange, names })
 }
 
-/// The signal lines of a file, or its first faulty line. It stops where the file cannot be read,
-/// and wherever memory is refused.
+/// The signal lines of a file. Stops where the file is missing or cannot be read, at its first
+/// faulty line, or out of memory.
 #[tactic(auto, using(answer_meaning::proofs::Stages::comes_rules))]
 pub fn lines_in<S: Shelf>(
     alloc: Global,
@@ -117,8 +117,8 @@ pub fn lines_in<S: Shelf>(
     lines_of_file(alloc, known, &text)
 }
 
-/// The signal lines of a file's text, which may be too large. It stops at its first faulty line,
-/// and where memory is refused.
+/// The signal lines of a file's text; `None` is a text above the size limit. Stops at its first
+/// faulty line, or out of memory.
 #[tactic(auto, using(answer_meaning::proofs::Stages::refused_rules, crate::proofs::Tables::are_of_text))]
 pub fn lines_of_file(
     alloc: Global,
@@ -144,7 +144,7 @@ pub fn lines_of_file(
     }
 }
 
-/// A text, where it is not too large for a file.
+/// The text, if it is within the size limit of files.
 #[tactic(auto, using(answer_meaning::proofs::Stages::is_fitting, answer_meaning::proofs::Stages::none_fitting))]
 pub fn fitting(text: Seq<u8>) -> Option<Seq<u8>>
     ensures is { result ≡ fitting MOST_BYTES text }

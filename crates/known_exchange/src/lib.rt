@@ -1,8 +1,8 @@
-// The exchange, the signal lines and the texts that a command names, read and known.
+// Reads the exchange, the signal lines and the texts that a command names.
 //
-// What goes in: a shelf of files, their names, and texts. What comes out: the exchange, with what
-// it has by its names; the signal lines, alone or merged with the signals of a table; or the stop
-// with the line of the first fault. It runs nothing, analyses nothing, and knows no thread.
+// In: a shelf of files, their names, and texts. Out: the exchange, with its directory of names; the
+// signal lines, alone or merged with the signals of a table; or the stop with the line of the first
+// fault. The crate runs and analyses nothing, and starts no thread.
 #![tactic(auto)]
 
 mod files;

@@ -14,8 +14,8 @@ use refusal_lines::table_stop;
 use signal_file::{Known, Line};
 use std::alloc::Global;
 
-/// The lines of a signal file and the signals of a table's file, as one list, or the first faulty
-/// line of the table. It stops where the file cannot be read, and wherever memory is refused.
+/// The lines of a signal file and the signals of a table's file, as one list. Stops where the file
+/// is missing or cannot be read, at the table's first faulty line, or out of memory.
 #[tactic(auto, using(answer_meaning::proofs::Stages::comes_rules))]
 pub fn merged_in<S: Shelf>(
     alloc: Global,
@@ -35,7 +35,7 @@ pub fn merged_in<S: Shelf>(
     merged_of_file(alloc, known, lines, &text)
 }
 
-/// The same with the text of a table, which may be too large.
+/// The same for the text of a table; `None` is a text above the size limit.
 #[tactic(auto, using(crate::proofs::Tables::table_rules, answer_meaning::proofs::Stages::reads_rules, answer_meaning::proofs::Stages::refused_rules))]
 fn merged_of_file(
     alloc: Global,

@@ -20,7 +20,8 @@ use std::alloc::Global;
 use text_rules::Rule as TextRule;
 use text_soundness::TextFault;
 
-/// The exchange that a file's text means, which may be too large, or its first fault.
+/// The exchange of a file's text, or its first fault; `None` is a text above the size limit. The
+/// only error is out of memory.
 #[tactic(auto, using(answer_meaning::proofs::Accepted::found_rules))]
 pub fn exchange_of_text(
     alloc: Global,
@@ -38,7 +39,7 @@ pub fn exchange_of_text(
     }
 }
 
-/// The exchange of a tree that breaks no rule.
+/// The exchange of a tree, or the first rule that the tree breaks.
 #[tactic(auto, using(answer_meaning::proofs::Accepted::resolve_rules))]
 fn exchange_of_tree(alloc: Global, tree: &Tree) -> Result<Result<Exchange, SourceFault>, Memory>
     requires { IsSpelled tree.now }
@@ -51,7 +52,7 @@ fn exchange_of_tree(alloc: Global, tree: &Tree) -> Result<Result<Exchange, Sourc
     }
 }
 
-/// The tree of a file's text.
+/// The syntax tree of a file's text, or its first fault.
 fn tree_of_file(alloc: Global, text: &Option<Seq<u8>>) -> Result<Result<Tree, SourceFault>, Memory>
     requires { IfSome text.now (λ t. length t ≤ MOST_BYTES) }
     ensures is { Finds (tree_of_file text.now) result }
@@ -101,7 +102,7 @@ fn tree_of_tokens(
     }
 }
 
-/// The word of a rule of a text.
+/// The rule of a text, as a refusal reports it.
 fn rule_of(rule: TextRule) -> Rule
     ensures { result ≡ rule_of rule }
 {
@@ -119,7 +120,7 @@ fn fault_at(line: u32, rule: Rule) -> SourceFault
     SourceFault { line, rule }
 }
 
-/// The line of the token at a place; 0 where there is none.
+/// The line of the token at an index; 0 if there is none.
 #[tactic(auto, using(answer_meaning::proofs::Accepted::line_rules))]
 fn token_line(tokens: &Tokens<'_>, place: u32) -> u32
     ensures { result ≡ token_line tokens.now place }
@@ -138,7 +139,7 @@ fn end_line(text: &[u8]) -> u32
     1 + feeds(text) as u32
 }
 
-/// How many LF bytes there are.
+/// The number of LF bytes.
 fn feeds(text: &[u8]) -> usize
     ensures count { result ≡ feeds text.now }
     ensures few { result ≤ length text.now }
