@@ -1,4 +1,4 @@
--- The text that comes with Done is run as the files that it comes of.
+-- A text answered with Done gives the same run as the files that it was made from.
 use Rattle.std.proofs.Common.{◌≡◌, ℕ, ◌≤◌, List, [], ◌∷◌, length, Option, Some, None, Result, Ok}
 use Rattle.std.proofs.Common.{Err, sym, subst, ap, ◌∙◌}
 use Rattle.std.specs.Result.{result_ok}
@@ -37,7 +37,7 @@ done : (s : Status) → s ≡ status.Done → IsDone s
 unfolding IsDone
 done s is = subst IsDone (sym is) tt
 
--- a stage is answered by Done where it comes to its value alone
+-- a stage never stops with Done
 NeverDone : {A : Type 0} → Out A → Type 0
 NeverDone (Ok a) = Unit {0}
 NeverDone (Err r) = IsDone r.status → ⊥
@@ -79,13 +79,13 @@ merge_never e s t files =
     followed (lines_at x s files) _ (followed (text_at s files) _ (text_never (files s)) (lines_never x)) (λ lines.
     followed (merged_at x lines t files) _ (followed (text_at t files) _ (text_never (files t)) (merged_never x lines)) (λ all. tt)))
 
--- an answer that is done comes of the value
+-- an answer with Done comes from a value
 told_done : (o : Out Answer) (a : Answer) → NeverDone o → answer_of o ≡ a → a.status ≡ status.Done → o ≡ Ok a
 unfolding NeverDone
 told_done (Ok b) a never is d = ap Ok is
 told_done (Err r) a never is d = absurd (never (done r.status (ap (λ x. x.status) is ∙ d)))
 
--- the text of an answer of lines
+-- the text of an answer with lines
 text_of : (x : Exchange) (all : List Line) (a : Answer) → lines_answer x all ≡ a → written_out x all ≡ a.text
 text_of x all a is = ap (λ r. r.text) is
 

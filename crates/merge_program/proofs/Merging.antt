@@ -1,4 +1,4 @@
--- From what three files come to, to the answer to the words.
+-- From the contents of the three files to the answer to the arguments.
 use Rattle.std.proofs.Common.{◌≡◌, ℕ, ◌≤◌, ◌<◌, List, [], ◌∷◌, length, get_or, arith, Option}
 use Rattle.std.proofs.Common.{Result, Ok, IfOk, refl, subst, ap}
 use Rattle.plex_io.specs.Files.{Files}
@@ -13,7 +13,7 @@ use Rattle.answer_meaning.specs.declared.answer.Answer.{Answer}
 use Rattle.answer_meaning.specs.declared.answer.Stop.{Stop}
 use Rattle.merge_program.specs.Merge.{AreOthers, IsMergeAnswer, merge_of, usage_answer}
 
--- three words are their items
+-- a list of three words, by its items
 three_are : (words : List Word) (e s t : Word) → 3 ≤ length words → length words < 4 → e ≡ get_or words 0 e
     → s ≡ get_or words 1 s → t ≡ get_or words 2 t → e ∷ s ∷ t ∷ [] ≡ words
 three_are [] e s t least most i j k = absurd (omega (arith, least))
@@ -22,7 +22,7 @@ three_are (u ∷ v ∷ []) e s t least most i j k = absurd (omega (arith, least)
 three_are (u ∷ v ∷ w ∷ []) e s t least most i j k = λ p. i p ∷ j p ∷ k p ∷ []
 three_are (u ∷ v ∷ w ∷ x ∷ rest) e s t least most i j k = absurd (omega (arith, most))
 
--- the answer to three names
+-- the answer to three file names
 named : (e s t : Word) (files : Files) (o : Out Answer) → merge_of e s t files ≡ o → IsMergeAnswer (e ∷ s ∷ t ∷ []) files (answer_of o)
 unfolding IsMergeAnswer
 named e s t files o is = ap answer_of is
@@ -40,7 +40,7 @@ module _ (held : Option Files) (words : List Word) (e s t : Word) (b a : ℕ) (r
       subst (λ ws. Makes (AreOthers ws) usage_answer r) (three_are words e s t least most i j k)
       (makes_told (AreOthers (e ∷ s ∷ t ∷ [])) usage_answer held (λ files o. merge_of e s t files ≡ o) b a r (λ others. others refl) comes ends)
 
--- no three words
+-- the arguments are not three words
 usage_is : (words : List Word) (files : Files) (o : Out Answer) → AreOthers words → Ok usage_answer ≡ o → IsMergeAnswer words files (answer_of o)
 unfolding IsMergeAnswer
 usage_is [] files o others is = ap answer_of is

@@ -1,4 +1,4 @@
--- Words and files have one answer.
+-- The answer to given arguments and files is unique.
 use Rattle.std.proofs.Common.{◌≡◌, List, [], ◌∷◌, refl, sym, ◌∙◌}
 use Rattle.plex_io.specs.Files.{Files}
 use Rattle.command_words.specs.Words.{Word}

@@ -1,4 +1,4 @@
--- What plex-merge answers: a status and a text for each list of words and each set of files.
+-- The answer of plex-merge: a status and a text for each list of arguments and each set of files.
 use Rattle.std.specs.Prelude.{◌≡◌, ℕ, List, [], ◌∷◌, ◌++◌, length, codes, Ok}
 use Rattle.plex_io.specs.Files.{Files}
 use Rattle.exchange_model.specs.declared.exchange.Exchange.{Exchange}
@@ -20,12 +20,12 @@ usage_text = codes "usage: plex-merge E S T" ++ LF
 abbrev pub usage_answer : Answer
 usage_answer = record { status = status.Usage; text = usage_text }
 
--- the text of the signal file that has these lines
+-- the text of a signal file with these lines
 abbrev pub lines_answer : Exchange → List Line → Answer
 lines_answer x lines = record { status = status.Done; text = written_out x lines }
 
--- what the files of these names come to: the lines of the signal file and the signals of the table
--- are written out as one signal file
+-- the outcome for these three files: the lines of the signal file and the signals of the table,
+-- written as one signal file
 abbrev pub merge_of : (exchange signals table : Word) → Files → Out Answer
 merge_of e s t files =
     goes_on (exchange_at e files) (λ x.
@@ -33,15 +33,15 @@ merge_of e s t files =
     goes_on (merged_at x lines t files) (λ all.
     Ok (lines_answer x all))))
 
--- the answer to three names
+-- the answer to three file names
 abbrev pub IsAnswerToNames : (exchange signals table : Word) → Files → Answer → Type 0
 IsAnswerToNames e s t files a = answer_of (merge_of e s t files) ≡ a
 
--- the words are not three
+-- the arguments are not three words
 abbrev pub AreOthers : List Word → Type 0
 AreOthers words = ¬ (length words ≡ 3)
 
--- the answer to these words: that to three names, or the usage line
+-- the answer to these arguments: for three file names, or the usage line
 unfoldable pub IsMergeAnswer : List Word → Files → Answer → Type 0
 IsMergeAnswer (e ∷ s ∷ t ∷ []) files a = IsAnswerToNames e s t files a
 IsMergeAnswer words files a = usage_answer ≡ a

@@ -1,4 +1,4 @@
-// What holds of the answers to all words, said by a clause.
+// Theorems about the answers to all arguments, stated as contracts.
 ghost use Rattle.std.specs.Prelude.{◌≡◌, ◌≤◌, List, [], ◌∷◌, Some, length};
 ghost use Rattle.plex_limits.specs.declared.limits.TheConstants.{MOST_BYTES};
 ghost use Rattle.plex_io.specs.Files.{Files};
@@ -11,9 +11,9 @@ ghost use Rattle.command_words.specs.Words.{Word};
 ghost use Rattle.command_words.specs.declared.command.TimedWords.{TimedWords};
 ghost use Rattle.merge_program.specs.Merge.{IsMergeAnswer};
 
-/// Where the answer to an exchange, a signal file and a table is `Done` and its text is not too
-/// large for a file, `run` of a file with that text in place of the signal file is answered as
-/// `timed` of all three.
+/// If the answer to an exchange, a signal file and a table is `Done` and its text is within the
+/// size limit of files, then `run` with that text as the signal file has the same answer as `timed`
+/// with all three files.
 pub fn merged_files_run()
     ensures { (w : TimedWords) (files others : Files) (name : Word) (a : Answer)
         → IsMergeAnswer (w.run.exchange ∷ w.run.signals ∷ w.table ∷ []) files a
@@ -24,13 +24,13 @@ pub fn merged_files_run()
         → run_of (record w.run { signals = name }) others ≡ timed_of w files }
 {}
 
-/// To all words over all files there is an answer: a status and a text.
+/// For all arguments and files there is an answer, a status and a text.
 pub fn an_answer_comes()
     ensures { (words : List Word) (files : Files)
         → (answer : Answer) × IsMergeAnswer words files answer }
 {}
 
-/// Two answers to the same words over the same files have the same status and the same text.
+/// Two answers to the same arguments and files have the same status and the same text.
 pub fn answers_are_one()
     ensures { (words : List Word) (files : Files) (one other : Answer)
         → IsMergeAnswer words files one → IsMergeAnswer words files other → one ≡ other }

@@ -1,10 +1,10 @@
-// The program plex-merge as one call: a signal file and a table of periodic signals as one signal
-// file.
+// The program plex-merge as one call: merges a signal file and a table of periodic signals into one
+// signal file.
 //
-// What goes in: the names of an exchange text, a signal file and a table, a shelf of files and a
-// sink. What comes out: a status, and in the sink the text of the signal file that the two files
-// stand for, or the line of the first fault. So what runs, traces or changes a signal file does so
-// with a table too. It knows no process: main gives it the real devices. It runs nothing.
+// In: the names of an exchange text, a signal file and a table, a shelf of files and a sink. Out: a
+// status, and in the sink the text of the merged signal file, or the line of the first fault. So
+// every command that takes a signal file can be used with a table too. The crate does not touch the
+// process: main passes in the real devices. No job is run.
 #![tactic(auto)]
 
 mod laws;

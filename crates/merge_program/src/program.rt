@@ -1,4 +1,4 @@
-// The program as one call.
+// The whole program as one call.
 ghost use Rattle.std.specs.Prelude.{◌≡◌, Ok, IfOk, IfSome};
 ghost use Rattle.answer_meaning.specs.Stages.{Comes, ReadAs};
 ghost use Rattle.answer_meaning.specs.Program.{Answers, ProcessEnds, ProcessEndsAs, IsComplete};
@@ -19,13 +19,15 @@ use signal_file::Line;
 use std::alloc::Global;
 use text_parts::Text;
 
-/// The program: reads the three files that the words name, and writes the answer.
+/// Runs the program: reads the three files that the arguments name, and writes the answer to the
+/// sink.
 ///
-/// `words` are the command's words without the program's name. Where the shelf tells its files, the
-/// status and the text are those of the answer (`IsMergeAnswer`), but for `Read` where a read
-/// failed, `Write` where the sink failed or is full, and then a proper front of the text was
-/// written, and `Memory`. With the status of a refusal, and no other, comes the fault whose line
-/// was written.
+/// `words` are the command's arguments without the program's name. Where the shelf's contents are
+/// known (`held`), status and text are those of the answer (`IsMergeAnswer`). The only other
+/// outcomes are `Read` where a file is missing or a read failed, `Write` where the sink failed or
+/// is full (a proper prefix of the text has then been written), and `Memory` (out of memory). After
+/// `Read` and `Memory` nothing was written. `fault` is the reported fault exactly where the status
+/// is that of a refusal.
 #[tactic(auto, using(answer_meaning::proofs::Endings::ending))]
 pub fn plex_merge<S: Shelf, K: Sink>(
     alloc: Global,
@@ -70,7 +72,7 @@ pub fn plex_merge<S: Shelf, K: Sink>(
     }
 }
 
-/// The answer to the words.
+/// The answer to the arguments.
 #[tactic(auto, using(crate::proofs::Merging::usage_rules))]
 fn answered<S: Shelf>(alloc: Global, words: &[Word], shelf: &mut S) -> Result<Answer, Stop>
     ensures answers { Answers (IsMergeAnswer words.now) (S.held shelf.old) (S.faults shelf.old)
@@ -83,7 +85,7 @@ fn answered<S: Shelf>(alloc: Global, words: &[Word], shelf: &mut S) -> Result<An
     }
 }
 
-/// What the files of these names come to.
+/// The outcome for the files with these names.
 #[tactic(auto, using(answer_meaning::proofs::Stages::comes_rules))]
 fn merge_files<S: Shelf>(
     alloc: Global,
@@ -102,7 +104,7 @@ fn merge_files<S: Shelf>(
     lines_answer(alloc, &known.exchange, &all)
 }
 
-/// The text of the signal file that has these lines, as a stage.
+/// The text of a signal file with these lines, as an answer.
 fn lines_answer(alloc: Global, exchange: &Exchange, lines: &Seq<Line>) -> Result<Answer, Stop>
     ensures reads { ReadAs (Ok (lines_answer exchange.now lines.now)) result }
     ensures ending { IfOk result (λ a. IsEnding a.status) }
