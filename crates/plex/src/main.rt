@@ -1,6 +1,5 @@
-// The program `plex`: the words of its command, real files and the standard output, given to the
-// one call that does the work. What the standard output does not tell, lines on the standard error
-// do.
+// The program `plex`: passes the command's arguments, real files and the standard output to the one
+// call that does the work. Lines on the standard error say what the standard output does not.
 #![tactic(auto)]
 
 use answer_meaning::ProgramEnd;
@@ -28,8 +27,8 @@ fn main(rt: HostRuntime) -> ExitCode {
     ExitCode::from(status.number())
 }
 
-/// The program over real files and the standard output, and what is to be said of its end. Words
-/// that are no text are none here.
+/// Runs the program with real files and the standard output, and reports its end on the standard
+/// error. `words` is empty if an argument is not UTF-8 (`are_text` false).
 fn run<R: Threads + Wait + Sync + Files + Print + Eprint + Clock + Env>(
     rt: &R,
     alloc: Global,
@@ -55,7 +54,7 @@ fn run<R: Threads + Wait + Sync + Files + Print + Eprint + Clock + Env>(
     complain(rt, end, &known)
 }
 
-/// The one call over the standard output, and of what kind the failure of a write was.
+/// Makes the call with the standard output. Returns the cause of a write failure too.
 fn write_out<R: Threads + Wait + Sync + Print + Eprint + Clock, S: Shelf>(
     rt: &R,
     alloc: Global,
@@ -68,7 +67,7 @@ fn write_out<R: Threads + Wait + Sync + Print + Eprint + Clock, S: Shelf>(
     (end, sink.inner().cause())
 }
 
-/// The one call, with what tells how far the run has come.
+/// Makes the call, with a progress line if there is one.
 fn call<R: Threads + Wait + Sync + Clock + Eprint, S: Shelf, K: Sink>(
     rt: &R,
     alloc: Global,
@@ -83,7 +82,7 @@ fn call<R: Threads + Wait + Sync + Clock + Eprint, S: Shelf, K: Sink>(
     }
 }
 
-/// What tells how far the run has come, where the environment asks for it.
+/// The progress line, if the environment turns it on.
 fn asked_progress<R: Clock + Eprint + Env>(rt: &R) -> Option<Progress<'_, R>> {
     if is_asked(rt) {
         Progress::begin(rt)
@@ -92,7 +91,7 @@ fn asked_progress<R: Clock + Eprint + Env>(rt: &R) -> Option<Progress<'_, R>> {
     }
 }
 
-/// The words from the first file on, which stand behind the name of the command.
+/// The arguments after the name of the command.
 fn files_in(words: &[Word]) -> &[Word] {
     match words.split_first() {
         Some((_, files)) => files,

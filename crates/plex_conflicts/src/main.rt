@@ -1,6 +1,6 @@
-// The program `plex-conflicts`: the words of its command, real files and the standard output, given
-// to the one call that does the work. What the standard output does not tell, lines on the standard
-// error do.
+// The program `plex-conflicts`: passes the command's arguments, real files and the standard output
+// to the one call that does the work. Lines on the standard error say what the standard output does
+// not.
 #![tactic(auto)]
 
 mod usage;
@@ -18,7 +18,7 @@ fn main(rt: HostRuntime) -> ExitCode {
     run_called(&rt, &Conflicts)
 }
 
-/// The program, as its main calls it.
+/// The program, as main calls it.
 struct Conflicts;
 
 impl Called for Conflicts {

@@ -1,20 +1,20 @@
-// What the program says of itself, and of words that ask for nothing.
+// The program's name, its help, and its messages about wrong arguments.
 use plex_io::Word;
 use plex_num::read_number;
 use process_ends::{Program, Quoted, say_version, text_of};
 use std::io;
 
-/// The program.
+/// The program's name, and its message for out of memory.
 pub const PROGRAM: Program = Program {
     name: "plex-conflicts",
     no_memory: "out of memory: give it more, or ask for one pair of entries",
 };
 
-/// What the program wants, as a sentence tells it.
+/// The arguments that the program takes, as part of a sentence.
 const WANTS: &str = "an exchange text, and the numbers of two entries or none";
 
-/// Says on the standard error what is wrong with words that ask for nothing, or what they ask of
-/// the program itself.
+/// Reports wrong arguments on the standard error, or prints the help or the version if they request
+/// it.
 pub fn say_wrong<R: Eprint>(rt: &R, words: &[Word], are_text: bool) -> io::Result<()> {
     if !are_text {
         return eprintln!(rt; "plex-conflicts: a word is no UTF-8 text");
@@ -26,7 +26,7 @@ pub fn say_wrong<R: Eprint>(rt: &R, words: &[Word], are_text: bool) -> io::Resul
     }
 }
 
-/// What the program does.
+/// Prints the help.
 fn say_help<R: Eprint>(rt: &R) -> io::Result<()> {
     eprintln!(rt;
         "plex-conflicts E [i j]: all conflicts of the entries of the exchange E, or of two of them"
@@ -34,7 +34,7 @@ fn say_help<R: Eprint>(rt: &R) -> io::Result<()> {
     eprintln!(rt; "man plex-conflicts tells its text and all statuses")
 }
 
-/// That there are too few words, or the first one that is too many.
+/// Reports the first argument that is too many, or that some are missing.
 fn say_number<R: Eprint>(rt: &R, words: &[Word]) -> io::Result<()> {
     match words.get(3) {
         Some(word) => {
@@ -45,7 +45,8 @@ fn say_number<R: Eprint>(rt: &R, words: &[Word]) -> io::Result<()> {
     }
 }
 
-/// The first of two words that is no number of an entry, or that one of them is missing.
+/// Reports the first of the two arguments that is no entry's number, or that one of them is
+/// missing.
 fn say_entry<R: Eprint>(rt: &R, words: &[Word]) -> io::Result<()> {
     match other_than_number(words.get(1)).or(other_than_number(words.get(2))) {
         Some(word) => {
@@ -56,7 +57,7 @@ fn say_entry<R: Eprint>(rt: &R, words: &[Word]) -> io::Result<()> {
     }
 }
 
-/// The word, if it is there and is no number.
+/// The argument, if there is one and it is no number.
 fn other_than_number(word: Option<&Word>) -> Option<&Word> {
     let word = word?;
     match read_number(word.as_slice()) {

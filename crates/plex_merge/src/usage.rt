@@ -1,19 +1,19 @@
-// What the program says of itself, and of words that are not three names.
+// The program's name, its help, and its messages about wrong arguments.
 use plex_io::Word;
 use process_ends::{Program, Quoted, say_version, text_of};
 use std::io;
 
-/// The program.
+/// The program's name, and its message for out of memory.
 pub const PROGRAM: Program = Program {
     name: "plex-merge",
     no_memory: "out of memory: give it more, or merge smaller files",
 };
 
-/// What the program wants, as a sentence tells it.
+/// The arguments that the program takes, as part of a sentence.
 const WANTS: &str = "three files: an exchange text, a signal file and a table";
 
-/// Says on the standard error what is wrong with words that are not three names, or what they ask
-/// for.
+/// Reports wrong arguments on the standard error, or prints the help or the version if they request
+/// it.
 pub fn say_wrong<R: Eprint>(rt: &R, words: &[Word], are_text: bool) -> io::Result<()> {
     if !are_text {
         return eprintln!(rt; "plex-merge: a word is no UTF-8 text");
@@ -25,7 +25,7 @@ pub fn say_wrong<R: Eprint>(rt: &R, words: &[Word], are_text: bool) -> io::Resul
     }
 }
 
-/// What the program does.
+/// Prints the help.
 fn say_help<R: Eprint>(rt: &R) -> io::Result<()> {
     eprintln!(rt;
         "plex-merge E S T: the signal file that the signal file S and the table T stand for"
@@ -33,7 +33,7 @@ fn say_help<R: Eprint>(rt: &R) -> io::Result<()> {
     eprintln!(rt; "man plex-merge tells all files and statuses")
 }
 
-/// That there are too few words, or the first one that is too many.
+/// Reports the first argument that is too many, or that some are missing.
 fn say_number<R: Eprint>(rt: &R, words: &[Word]) -> io::Result<()> {
     match words.get(3) {
         Some(word) => {
