@@ -1,5 +1,5 @@
-// The program over devices in memory: each status that a device can cause, and what is written
-// then.
+// Tests of the programs with in-memory devices: each status that a device can cause, and what is
+// written then.
 use command_words::Status;
 use plex_io::{MemoryShelf, MemorySink, NoGate, StoredFile, Word};
 use plex_num::{Memory, Seq};
@@ -7,7 +7,7 @@ use plex_program::plex;
 use std::alloc::Global;
 use std::test::Fail;
 
-/// N is how many ticks came.
+/// N counts the ticks that came.
 pub const COUNTER: &str = "SIGNAL TICK SINGLE BUFFERED B DATA 0;
 BLOCK COUNTER;
 DECLARE; VARIABLE N WIDTH 32;
@@ -35,7 +35,7 @@ pub fn files_of(alloc: Global, files: &[(&str, &str)]) -> Result<Seq<StoredFile>
     Ok(stored)
 }
 
-/// The words of a command.
+/// The arguments of a command.
 pub fn words_of(alloc: Global, words: &[&str]) -> Result<Seq<Word>, Memory> {
     let mut all = Seq::new(alloc);
     for word in words {

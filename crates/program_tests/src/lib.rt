@@ -1,8 +1,8 @@
-// What no clause says of the whole programs: what comes of devices that fail, that jobs which may
-// run at once do begin so, where they are held at a gate, and that memory which is ample is not
-// said to be refused.
+// Tests of whole programs, for what contracts do not state: the results with devices that fail;
+// that jobs which may run in parallel do so when a gate holds them; and that a program with ample
+// memory does not report that it is out of memory.
 //
-// Nothing comes out. A crate with tests is proved twice, so these tests stand here and not in the
+// The crate exports nothing. A crate with tests is proved twice, so these tests are not in the
 // crate of the program.
 #![tactic(auto)]
 

@@ -1,5 +1,5 @@
-// The program with several workers: jobs that may run at once do begin so, where they are held at a
-// gate.
+// Tests of the program with several workers: jobs that may run in parallel do so when a gate holds
+// them.
 use crate::steps::steps_of;
 use crate::whole::{NotMade, answers};
 use command_words::Status;
@@ -11,10 +11,10 @@ use std::sync::atomic::{AtomicU64, Ordering};
 use std::test::Fail;
 use std::thread::{Threads, available_parallelism};
 
-/// Jobs of this exchange may run at once: each counts to 8,000 and shows what it was asked, in
-/// 72,013 instructions, which makes it a long one. The first of them runs before any other: by it
-/// is seen that they are long. Each has a forlopp of its own, since a job with a loop may fault,
-/// and one that may fault runs alone where it has none.
+/// Jobs of this exchange may run in parallel. Each counts to 8,000 and shows its value, in 72,013
+/// instructions, which makes it a long job. The first one runs before any other and shows that they
+/// are long. Each has a forlopp of its own: a job with a loop may fault, and without a forlopp a
+/// job that may fault runs alone.
 const QUESTIONS: &str = "SIGNAL ASK SINGLE BUFFERED B DATA 1;
 SIGNAL SHOW OUTSIDE DATA 1;
 BLOCK Q;
@@ -54,10 +54,10 @@ JOBS 4
 END DONE
 ";
 
-/// How long a job is held at a gate, in looks.
+/// The most polls for which a gate holds a job.
 const TURNS: u64 = 20_000_000;
 
-/// A gate at which all jobs but the first meet, and that adds up the steps that it is told.
+/// A gate at which all jobs but the first meet, and that adds up the steps reported to it.
 #[derive(Drop)]
 struct StepsGate {
     meet: MeetGate,
@@ -75,15 +75,15 @@ impl Gate for StepsGate {
     }
 }
 
-/// A gate that holds each job from one number to another before its first step until so many jobs
-/// have begun.
+/// A gate that holds each job from number `first` to `last` before its first step until `wanted`
+/// jobs have begun.
 #[derive(Drop)]
 struct CrowdGate {
     first: u64,
     last: u64,
     wanted: u64,
     begun: AtomicU64,
-    /// How many jobs that were held found that so many had begun.
+    /// How many of the jobs held saw `wanted` jobs begin.
     seen: AtomicU64,
 }
 
@@ -118,7 +118,8 @@ impl Gate for CrowdGate {
     }
 }
 
-/// A run of this exchange and these signal lines with so many workers writes this report.
+/// Checks that a run of this exchange and these signal lines with this many workers writes this
+/// report.
 fn runs<R: Threads + Wait + Sync, G: Gate + Sync>(
     rt: &R,
     alloc: Global,
@@ -133,8 +134,8 @@ fn runs<R: Threads + Wait + Sync, G: Gate + Sync>(
     answers(rt, alloc, &words, &files, gate, wanted)
 }
 
-/// How many jobs of the last two of three asks found that both had begun, and how many steps the
-/// gate was told of.
+/// How many of the last two of three jobs saw both begin, and how many steps were reported to the
+/// gate.
 fn meetings<R: Threads + Wait + Sync>(
     rt: &R,
     alloc: Global,
@@ -149,7 +150,7 @@ fn meetings<R: Threads + Wait + Sync>(
     Ok((gate.meet.seen(), gate.steps.load(Ordering::SeqCst)))
 }
 
-/// The gate is told of as many steps as the dispatcher counts.
+/// The steps reported to the gate are those that the dispatcher counts.
 #[test]
 fn two_jobs_meet(rt: HostRuntime) -> Result<(), Fail> {
     let steps = steps_of(&rt, rt.alloc(), QUESTIONS, THREE_ASKS)?;
@@ -159,7 +160,7 @@ fn two_jobs_meet(rt: HostRuntime) -> Result<(), Fail> {
     Ok(())
 }
 
-/// Whether the third of three asks begins while the second one waits for it: 1 if so.
+/// 1 if the third of three jobs begins while the second one is held for it; else 0.
 fn slides<R: Threads + Wait + Sync>(rt: &R, alloc: Global, workers: &str) -> Result<u64, NotMade> {
     let gate = SlideGate::new(TURNS);
     let files = (QUESTIONS, THREE_ASKS);
@@ -174,7 +175,7 @@ fn a_job_begins_while_an_older_one_runs(rt: HostRuntime) -> Result<(), Fail> {
     Ok(())
 }
 
-/// The same questions, and each job makes nine instructions.
+/// The same exchange with short jobs, of nine instructions each.
 const SHORT_QUESTIONS: &str = "SIGNAL ASK SINGLE BUFFERED B DATA 1;
 SIGNAL SHOW OUTSIDE DATA 1;
 BLOCK Q;
@@ -187,7 +188,7 @@ EXIT;
 END BLOCK;
 ";
 
-/// The certificate of that exchange.
+/// The certificate of SHORT_QUESTIONS.
 const SHORT_CERTIFICATE: &str = "PLEX CERTIFICATE 2
 EXCHANGE signals 2 blocks 1 points 4 cells 0 entries 1 references 0
 FACT 0 0 T0 CONST 0
@@ -235,8 +236,8 @@ JOBS 12
 END DONE
 ";
 
-/// Behind the first job three begin before any of them goes on where there are three threads, and
-/// two where there are two: two workers are used, or one.
+/// After the first job, three begin before any of them continues if there are three threads, and
+/// two if there are two. So two workers are used, or one.
 #[test]
 fn each_worker_is_used(rt: HostRuntime) -> Result<(), Fail> {
     let threads = match available_parallelism(&rt) {
@@ -250,9 +251,9 @@ fn each_worker_is_used(rt: HostRuntime) -> Result<(), Fail> {
     Ok(())
 }
 
-/// The second job goes on when all twelve have begun: so eleven fly, whatever number of threads
-/// runs them. With a certificate the dispatcher runs the first job too, and until one has ended it
-/// takes the jobs of an entry for long ones.
+/// The second job continues when all twelve have begun: so eleven are in flight, on any number of
+/// threads. With a certificate the dispatcher runs the first job too; until one job of an entry has
+/// ended, it assumes that the entry's jobs are long.
 #[test]
 fn more_jobs_fly_than_threads_run(rt: HostRuntime) -> Result<(), Fail> {
     let gate = CrowdGate::new(2, 2, 12);

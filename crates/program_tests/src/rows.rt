@@ -1,4 +1,4 @@
-// A run that ends at its limit, and a run of lines that were merged before.
+// Tests of a run that ends at its limit, and of a run of merged lines.
 use crate::devices::{COUNTER, files_of, words_of};
 use crate::whole::{NotMade, answers};
 use command_words::Status;
@@ -21,7 +21,7 @@ END BLOCK;
 
 const ONE_PUSH: &str = "AFTER 0 AGAIN WHEEL NONE\n";
 
-/// A run of many jobs is told to end at its limit, as a short one is.
+/// A run of many jobs ends at its limit as a short one does.
 #[test]
 fn a_run_ends_after_five_hundred_jobs(rt: HostRuntime) -> Result<(), Fail> {
     let words = ["run", "E", "S", "--jobs", "500"];
@@ -38,7 +38,7 @@ AFTER 2 TICK COUNTER NONE
 
 const THREE_MORE: &str = "EVERY 2 FROM 1 TIMES 3 TICK COUNTER NONE\n";
 
-/// The ticks of both.
+/// The ticks of both files.
 const MERGED: &str = "AFTER 0 TICK COUNTER NONE
 AFTER 1 TICK COUNTER NONE
 AFTER 2 TICK COUNTER NONE
@@ -48,7 +48,7 @@ AFTER 5 TICK COUNTER NONE
 
 const FIVE_CAME: &str = "JOBS 5\nVAR COUNTER.N 5\nEND DONE\n";
 
-/// The lines of both are written out so, with the status `Done`.
+/// Checks that the two files are written as MERGED, with the status `Done`.
 fn merges(alloc: Global) -> Result<(), NotMade> {
     let words = words_of(alloc, &["E", "S", "T"])?;
     let files = [("E", COUNTER), ("S", TWO_TICKS), ("T", THREE_MORE)];

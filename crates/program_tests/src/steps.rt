@@ -1,4 +1,4 @@
-// How many instructions the dispatcher counts.
+// The number of instructions that the dispatcher counts.
 ghost use Rattle.std.specs.Prelude.{◌≤◌};
 ghost use Rattle.plex_limits.specs.declared.limits.TheConstants.{MOST_JOBS};
 ghost use Rattle.store_layout.specs.Laid.{IsLayout};
@@ -27,11 +27,11 @@ use std::sync::Wait;
 use std::thread::Threads;
 use store_layout::{Layout, layout_of};
 
-/// How many looks at facts the analysis may take.
+/// The bound of the analysis, in looks at facts.
 const LOOKS: usize = 65_536;
 
-/// How many instructions the jobs of these signal lines make, two of them at once, as the
-/// dispatcher counts them.
+/// The number of instructions of these signal lines' jobs, with two workers, as the dispatcher
+/// counts them.
 pub fn steps_of<R: Threads + Wait + Sync>(
     rt: &R,
     alloc: Global,
@@ -47,7 +47,7 @@ pub fn steps_of<R: Threads + Wait + Sync>(
     counted(rt, alloc, &known.exchange, lines)
 }
 
-/// The same of lines that were read.
+/// The same for lines that are read already.
 #[tactic(auto, using(run_answers::proofs::Opened::opened_rules))]
 fn counted<R: Threads + Wait + Sync>(
     rt: &R,
@@ -67,7 +67,7 @@ fn counted<R: Threads + Wait + Sync>(
     }
 }
 
-/// The same of a run on its way.
+/// The same for a run in an intermediate state.
 #[tactic(auto, using(worker_answers::proofs::Rooted::root_rules))]
 fn dispatched<R: Threads + Wait + Sync>(
     rt: &R,

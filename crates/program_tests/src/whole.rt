@@ -1,4 +1,4 @@
-// What the program writes, where memory is ample.
+// The output of the program when memory is ample.
 use crate::devices::{files_of, words_of};
 use answer_meaning::Stop;
 use command_words::Status;
@@ -9,7 +9,7 @@ use std::alloc::Global;
 use std::sync::Wait;
 use std::thread::Threads;
 
-/// A status or a text differs, or memory was refused.
+/// A status or a text differs from the expected one, or the program is out of memory.
 #[derive(Clone, Copy, Debug)]
 pub struct NotMade;
 
@@ -25,8 +25,8 @@ impl From<Stop> for NotMade {
     }
 }
 
-/// The program answers these words over these files with this status and this text, for which there
-/// is room, and no more.
+/// Checks that the program answers these arguments and files with this status and this text. The
+/// sink has room for exactly this text.
 pub fn answers<R: Threads + Wait + Sync, G: Gate + Sync>(
     rt: &R,
     alloc: Global,
