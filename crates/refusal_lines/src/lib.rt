@@ -1,8 +1,8 @@
-// The lines that are written in place of a report, and the stops that tell them.
+// The lines that are written instead of a report, and the stops that report them.
 //
-// What goes in: the first fault of an exchange text, of a signal file, of a table, of a filter or
-// of a certificate. What comes out: the stop with the status and the line of that fault. It reads
-// no file and looks for no fault.
+// In: the first fault of an exchange text, of a signal file, of a table, of a filter or of a
+// certificate. Out: the stop with the status and the line of that fault. The crate reads no file
+// and does not search for faults.
 #![tactic(auto)]
 
 mod stops;

@@ -1,4 +1,4 @@
-// The lines that are written in place of a report, and the stops that tell them.
+// The lines that are written instead of a report, and the stops that report them.
 ghost use Rattle.std.specs.Prelude.{◌≡◌, ◌++◌, IfOk, OnOk};
 ghost use Rattle.std.specs.List.{flat_map};
 ghost use Rattle.answer_meaning.specs.Stages.{IsStopOf, IsStopWith};
@@ -34,7 +34,7 @@ pub fn source_stop(alloc: Global, which: Which, fault: SourceFault) -> Stop
     )
 }
 
-/// The words in front of the line of a fault of an exchange text.
+/// The words before the line of a fault of an exchange text.
 fn source_words(which: Which) -> &'static [u8]
     ensures { result.now ≡ source_words which }
 {
@@ -88,8 +88,7 @@ pub fn filter_stop(alloc: Global, fault: FilterFault) -> Stop
     stop_with(alloc, FileFault::Filter(fault), Status::Filter, line)
 }
 
-/// The stop with this fault, status and line, or for want of memory, where there was none for the
-/// line.
+/// The stop with this fault, status and line, or out of memory if there was none for the line.
 fn stop_with(alloc: Global, fault: FileFault, status: Status, line: Result<Seq<u8>, Memory>) -> Stop
     ensures { IsStopWith fault status line result }
 {
@@ -105,7 +104,7 @@ fn stop_with(alloc: Global, fault: FileFault, status: Status, line: Result<Seq<u
     }
 }
 
-/// These words, the number of the line of a fault, and its rule.
+/// These words, the line's number, and the fault's rule.
 fn source_line(alloc: Global, words: &[u8], fault: SourceFault) -> Result<Seq<u8>, Memory>
     ensures { IfOk result (λ text. text ≡ rule_line words.now fault.line (rule_name fault.rule)) }
 {
@@ -117,7 +116,7 @@ fn source_line(alloc: Global, words: &[u8], fault: SourceFault) -> Result<Seq<u8
     Ok(text)
 }
 
-/// These words, the number of a line, and the word of a rule.
+/// These words, the line's number, and the rule's word.
 fn line_of(alloc: Global, words: &[u8], line: u32, rule: &[u8]) -> Result<Seq<u8>, Memory>
     ensures { IfOk result (λ text. text ≡ rule_line words.now line rule.now) }
 {
@@ -147,7 +146,7 @@ fn certificate_line(alloc: Global, fault: CertificateFault) -> Result<Seq<u8>, M
     }
 }
 
-/// `CERTIFICATE WRONGEXCHANGE` and the numbers of two shapes.
+/// `CERTIFICATE WRONGEXCHANGE` and the numbers of both shapes.
 fn other_exchange_line(
     alloc: Global,
     exchange: Shape,
@@ -163,7 +162,7 @@ fn other_exchange_line(
     Ok(text)
 }
 
-/// Appends the numbers of a shape, each behind a space.
+/// Appends the numbers of a shape, each after a space.
 fn add_shape(text: &mut Seq<u8>, shape: Shape) -> Result<(), Memory>
     ensures { OnOk result (text.new ≡ text.old ++ flat_map spaced (shape_numbers shape)) }
 {
@@ -178,7 +177,7 @@ fn add_shape(text: &mut Seq<u8>, shape: Shape) -> Result<(), Memory>
     add_numbers(text, &numbers)
 }
 
-/// Appends numbers, each behind a space.
+/// Appends numbers, each after a space.
 fn add_numbers(text: &mut Seq<u8>, numbers: &[u32]) -> Result<(), Memory>
     ensures { OnOk result (text.new ≡ text.old ++ flat_map spaced numbers.now) }
 {
@@ -188,7 +187,7 @@ fn add_numbers(text: &mut Seq<u8>, numbers: &[u32]) -> Result<(), Memory>
     Ok(())
 }
 
-/// Appends a number behind a space.
+/// Appends a space and a number.
 #[tactic(auto, using(answer_meaning::proofs::Stages::two_pieces))]
 fn add_spaced(text: &mut Seq<u8>, number: u32) -> Result<(), Memory>
     ensures { OnOk result (text.new ≡ text.old ++ spaced number) }
@@ -198,7 +197,7 @@ fn add_spaced(text: &mut Seq<u8>, number: u32) -> Result<(), Memory>
     Ok(())
 }
 
-/// The line of a fact behind these words.
+/// These words, then the line of a fact.
 fn fact_line(alloc: Global, words: &[u8], fact: Fact) -> Result<Seq<u8>, Memory>
     ensures { IfOk result (λ text. text ≡ fact_text words.now fact) }
 {
