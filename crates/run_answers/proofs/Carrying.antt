@@ -1,4 +1,4 @@
--- What a change carries over, and the run that goes on with it.
+-- What a change carries over, and the run that continues with it.
 use Rattle.std.proofs.Common.{◌≡◌, ℕ, ◌≤◌, List, sym, ap, ◌∙◌, subst, arith}
 use Rattle.plex_limits.specs.declared.limits.TheConstants.{MOST_JOBS}
 use Rattle.exchange_model.specs.declared.exchange.Exchange.{Exchange}
@@ -12,7 +12,7 @@ use Rattle.exchange_run.specs.Runs.{state_of}
 use Rattle.block_change.specs.Carried.{AreStanding, IsCarried, state_with}
 use Rattle.run_answers.specs.Runs.{CarriesOn}
 
--- a higher limit, which is not below what has ended
+-- a higher limit is at least the number of ended jobs
 pub raised_parts : (p : BookParts) (n jobs : ℕ) → n ≡ jobs → AreParts p → p.ended ≤ jobs → jobs ≤ MOST_JOBS → AreParts (record p { limit = n })
 raised_parts p n jobs same are few most = record {
   next_line = are.next_line;
@@ -33,7 +33,7 @@ raised_parts p n jobs same are few most = record {
 pub raised_books : (p : BookParts) (n jobs : ℕ) (b : Account) → n ≡ jobs → b ≡ account_of (record p { limit = n }) → b ≡ account_of (record p { limit = jobs })
 raised_books p n jobs b same is = is ∙ ap (λ k. account_of (record p { limit = k })) same
 
--- the run that goes on with what is carried over
+-- the run that continues with what was carried over
 raised_state : (p : BookParts) (jobs : ℕ) (words : List ℕ) (run : Standing)
     → run.books ≡ account_of (record p { limit = jobs }) → run.words ≡ words → state_of run ≡ state_with p words
 raised_state p jobs words run is same = λ i. with_words (is i).state (same i)

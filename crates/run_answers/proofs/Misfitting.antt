@@ -1,4 +1,4 @@
--- The stop with what an exchange has not.
+-- The stop that names what an exchange lacks.
 use Rattle.std.proofs.Common.{◌≡◌, List, ℕ, sym, ap, refl, subst}
 use Rattle.exchange_model.specs.declared.exchange.Exchange.{Exchange}
 use Rattle.block_change.specs.declared.misfit.Misfit.{Misfit}

@@ -1,4 +1,5 @@
--- From before the first line to the end of a run: its limit, and the state from which it is told.
+-- From the state before the first line to the end of a run: its limit, and the state that the
+-- report is about.
 use Rattle.std.proofs.Common.{◌≡◌, ℕ, ◌≤◌, sym, subst}
 use Rattle.plex_limits.specs.declared.limits.TheConstants.{MOST_JOBS}
 use Rattle.exchange_model.specs.declared.exchange.Exchange.{Exchange}

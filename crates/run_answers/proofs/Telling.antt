@@ -26,16 +26,16 @@ status_ends Finished s is = rw is tt
 status_ends Restarted s is = rw is tt
 status_ends Limited s is = rw is tt
 
--- the report of an end, and the status of its ending
+-- the report on an end, with the status of its ending
 pub told_at : (x : Exchange) (s : State) (e : Ending) (a : Answer) → a.status ≡ ended_status e → a.text ≡ report_text x s e → a ≡ ended_answer x s e
 told_at x s e a status_is text_is = λ i. record { status = status_is i; text = text_is i }
 
--- the same behind a text
+-- the same after another text
 pub told_headed : (x : Exchange) (s : State) (e : Ending) (front : List ℕ) (a : Answer) → a.status ≡ ended_status e
     → a.text ≡ front ++ report_text x s e → a ≡ headed_by front (ended_answer x s e)
 told_headed x s e front a status_is text_is = λ i. record { status = status_is i; text = text_is i }
 
--- the answer at the end of the single run is that of the run
+-- the answer at the end of the single run is the answer of the run
 pub answer_is : (x : Exchange) (lines : List Line) (jobs : ℕ) (end : Ended) (a : Answer) → IsRunOf x lines jobs end
     → a ≡ ending_answer x end → a ≡ run_answer x lines jobs
 answer_is x lines jobs end a over here =
@@ -43,12 +43,12 @@ answer_is x lines jobs end a over here =
     let ends : e ≡ ending_of jobs (end_of x lines jobs) = ap (λ o. unwrap_or o Limited) (sym over.runs.ends) in
     here ∙ ap (λ t. ended_answer x t e) over.runs.state ∙ ap (ended_answer x (end_of x lines jobs)) ends
 
--- a summary looks at no word
+-- the summary depends on no memory word
 no_words : (calls : ℕ) (s : State) (words : List ℕ) (e : Ending) → load_text calls s e ≡ load_text calls (with_words s words) e
 unfolding load_text
 no_words calls s words e = refl
 
--- the summary of an end, and the status of its ending
+-- the summary of an end, with the status of its ending
 pub told_summed : (calls : ℕ) (s : State) (words : List ℕ) (e : Ending) (a : Answer) → a.status ≡ ended_status e
     → a.text ≡ load_text calls s e → a ≡ summed_answer calls (with_words s words) e
 told_summed calls s words e a status_is text_is =

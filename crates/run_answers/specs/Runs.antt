@@ -1,4 +1,4 @@
--- The end of the run of lines, and a run that is carried over.
+-- The end of a run of lines, and a run after a change.
 use Rattle.std.specs.Prelude.{◌≡◌, ℕ, List, map}
 use Rattle.exchange_model.specs.declared.exchange.Exchange.{Exchange}
 use Rattle.signal_file.specs.declared.line.Line.{Line}
@@ -14,8 +14,8 @@ use Rattle.block_change.specs.Carried.{IsCarried}
 abbrev pub IsRunOf : Exchange → List Line → ℕ → Ended → Type 0
 IsRunOf x lines jobs end = IsEndOf x (opening x (map coming_of lines)) jobs end
 
--- this state of the old exchange is carried over to the new one, where a run may go on with it to
--- so many jobs
+-- this state of the old exchange is carried over to the new one, and a run with this limit of jobs
+-- may continue with it
 pub record CarriesOn (old new : Exchange) (before : State) (jobs : ℕ) (run : Standing) : Type
     0 where
   pub carried : IsCarried old new before (state_of run)

@@ -1,4 +1,4 @@
-// What a change tells, and what it carries over to the new exchange.
+// What is reported of a change, and what is carried over to the new exchange.
 ghost use Rattle.std.specs.Prelude.{◌≡◌, ◌≤◌, ◌++◌, IfOk, None, OnOk};
 ghost use Rattle.plex_limits.specs.declared.limits.TheConstants.{MOST_JOBS};
 ghost use Rattle.store_layout.specs.Laid.{IsLayout};
@@ -24,7 +24,7 @@ use std::alloc::Global;
 use store_layout::Layout;
 use text_parts::Text;
 
-/// A change from one exchange to another after so many jobs.
+/// A change from one exchange to another after job `at`.
 #[derive(Clone, Copy)]
 pub struct Change<'a> {
     pub old: &'a Exchange,
@@ -32,7 +32,7 @@ pub struct Change<'a> {
     pub at: u32,
 }
 
-/// The stop with what the new exchange has not.
+/// The stop that names what the new exchange lacks.
 #[tactic(auto, using(crate::proofs::Misfitting::misfit_told))]
 pub fn misfit_stop(alloc: Global, old: &Exchange, misfit: Misfit) -> Stop
     ensures { IsStopOf (misfit_refusal old.now misfit) result }
@@ -77,7 +77,7 @@ fn file_text(alloc: Global, old: &Exchange, file: u32) -> Result<Seq<u8>, Memory
     Ok(text)
 }
 
-/// `BLOCK.FILE` of a file; no bytes where there is none of this number.
+/// `BLOCK.FILE` for a file's number; nothing if there is no such file.
 fn add_file(text: &mut Seq<u8>, exchange: &Exchange, file: u32) -> Result<(), Memory>
     ensures { OnOk result (text.new ≡ text.old ++ file_words exchange.now file) }
 {
@@ -89,7 +89,7 @@ fn add_file(text: &mut Seq<u8>, exchange: &Exchange, file: u32) -> Result<(), Me
     text.append(place.file.name.as_slice())
 }
 
-/// Whether a run that ended so has not so many jobs as this, or stopped with the last of them.
+/// Whether a run that ended so has fewer than `at` jobs, or stopped after a restart.
 pub fn ends_before(end: &Ended, at: u32) -> bool
     ensures { result ≡ ends_before (ending_of end.now.ending) end.now.books.state.ended at }
 {
@@ -100,7 +100,7 @@ pub fn ends_before(end: &Ended, at: u32) -> bool
     }
 }
 
-/// The events up to the change, and the change. Memory is the only reason for an error.
+/// The events before the change, and the change itself. The only error is out of memory.
 pub fn text_before(
     alloc: Global,
     old: &Exchange,
@@ -126,9 +126,9 @@ fn change_text(alloc: Global, at: u32) -> Result<Seq<u8>, Memory>
     Ok(text)
 }
 
-/// What the old exchange has between two jobs, its books in parts and its words, carried over to
-/// the new one, where the run may go on to so many jobs. The layouts are those of the old and the
-/// new exchange. Memory is the only reason for an error.
+/// Carries the state of the old exchange between two jobs (the parts of its books, and its words)
+/// over to the new one. The run may continue up to `jobs` jobs. `layout` is that of the old
+/// exchange, `to` that of the new one. The only error is out of memory.
 pub fn carried_run(
     alloc: Global,
     change: &Change<'_>,
@@ -152,7 +152,7 @@ pub fn carried_run(
     Ok(run)
 }
 
-/// These parts of books and these words, which may go on to so many jobs.
+/// A run with these parts of books and these words, up to `jobs` jobs.
 #[tactic(auto, using(crate::proofs::Carrying::raised_books))]
 fn raised(parts: BookParts, words: Seq<u32>, jobs: u32) -> Standing
     requires parts { AreParts parts }

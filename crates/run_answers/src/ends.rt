@@ -1,4 +1,4 @@
-// The answer at the end of a run, whoever ran it.
+// The answer at the end of a run, whichever way it was executed.
 ghost use Rattle.std.specs.Prelude.{◌≡◌, IfOk};
 ghost use Rattle.run_books.specs.Accounts.{with_words};
 ghost use Rattle.run_books.specs.Events.{ending_of};
@@ -17,8 +17,7 @@ use run_books::Ending;
 use std::alloc::Global;
 use text_parts::Text;
 
-/// The report of a run that has come to this end, and the status of its ending. Memory is the only
-/// reason for an error.
+/// The report on the end of a run, with the status of its ending. The only error is out of memory.
 #[tactic(auto, using(crate::proofs::Telling::told_at, crate::proofs::Telling::status_ends))]
 pub fn end_answer(alloc: Global, exchange: &Exchange, end: Ended) -> Result<Answer, Memory>
     ensures answer { IfOk result (λ a. a ≡ ending_answer exchange.now end) }
@@ -36,7 +35,7 @@ pub fn end_answer(alloc: Global, exchange: &Exchange, end: Ended) -> Result<Answ
     })
 }
 
-/// The same report behind a text, and the status of its ending.
+/// The same report after another text, with the status of the ending.
 #[tactic(auto, using(crate::proofs::Telling::told_headed, crate::proofs::Telling::status_ends))]
 pub fn headed_answer(text: Text, exchange: &Exchange, end: Ended) -> Result<Answer, Memory>
     ensures answer { IfOk result (λ a. a ≡ headed_by text (ending_answer exchange.now end)) }
@@ -55,8 +54,8 @@ pub fn headed_answer(text: Text, exchange: &Exchange, end: Ended) -> Result<Answ
     })
 }
 
-/// The summary of the run of a load of so many calls that has come to this end, and the status of
-/// its ending. Memory is the only reason for an error.
+/// The summary of a load of `calls` calls at the end of its run, with the status of the ending. The
+/// only error is out of memory.
 #[tactic(auto, using(crate::proofs::Telling::told_summed, crate::proofs::Telling::status_ends))]
 pub fn summed_answer(alloc: Global, calls: u32, end: Ended) -> Result<Answer, Memory>
     ensures answer { IfOk result (λ a. a ≡ summed_answer calls

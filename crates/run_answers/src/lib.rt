@@ -1,8 +1,8 @@
-// The answers that need the run of an exchange, and no threads.
+// The parts of answers that need the run of an exchange, but no threads.
 //
-// What goes in: an exchange, and the end of a run, whoever ran it. What comes out: whether its code
-// is short enough to run by; the report behind an end, whatever stands before it; what a change
-// tells and carries over. No job runs here, and no certificate is looked at.
+// In: an exchange, and the end of a run, whichever way it was executed. Out: whether the exchange's
+// code is short enough to compile; the report on the end, after any text before it; what is
+// reported of a change and what it carries over. No job is run and no certificate is read here.
 #![tactic(auto)]
 
 mod change;
