@@ -1,4 +1,4 @@
--- A run while its jobs are short: it comes to its end, or its jobs become long.
+-- A run while its jobs are short: it ends, or its jobs become long.
 use Rattle.std.proofs.Common.{◌≡◌, ℕ, ◌≤◌, sym, subst}
 use Rattle.plex_limits.specs.declared.limits.TheConstants.{MOST_JOBS}
 use Rattle.exchange_model.specs.declared.exchange.Exchange.{Exchange}
@@ -15,7 +15,7 @@ use Rattle.run_certificates.specs.declared.own.Grown.{Grown}
 use Rattle.run_certificates.specs.declared.own.Grown.TheVariants as grown
 use Rattle.run_certificates.specs.Growth.{HasGrown}
 
--- a run on its way goes on: it comes to its end, or rests again
+-- a run continues from an intermediate state: it ends, or pauses again
 
 pub come_over : {x : Exchange} {first : State} {limit : ℕ} {run : Standing} {come : Come} {end : Ended}
     → IsOnTheWay x first limit run → HasCome x (state_of run) run.books.limit come → come ≡ Over end
@@ -27,7 +27,7 @@ pub come_among : {x : Exchange} {first : State} {limit : ℕ} {run next : Standi
     → IsOnTheWay x first limit next
 come_among {x = x} {run = run} way has is = way_more way (subst (HasCome x (state_of run) run.books.limit) is has)
 
--- what has become of it
+-- the result
 
 pub grown_over : (x : Exchange) (first : State) (limit : ℕ) (g : Grown) (end : Ended) → HasGrown x first limit g
     → g ≡ grown.Over end → IsEndOf x first limit end

@@ -1,4 +1,4 @@
-// What is kept of the certificate of the exchange that a text tells.
+// The summaries kept of a given certificate.
 ghost use Rattle.std.specs.Prelude.{◌≤◌, IfOk, IfSome, Some, length};
 ghost use Rattle.plex_limits.specs.declared.limits.TheConstants.{MOST_BYTES};
 ghost use Rattle.answer_meaning.specs.Certificates.{IsAcceptedOrNot, IsKeptOrNot};
@@ -12,8 +12,8 @@ use exchange_model::Exchange;
 use plex_num::{Memory, Seq};
 use std::alloc::Global;
 
-/// What is kept of the certificate of the exchange whose text this is, or the first fault of the
-/// text, which may be too large.
+/// The summaries kept of the exchange's certificate that this text is, or the first fault of the
+/// text; `None` is a text above the size limit.
 #[tactic(auto, using(answer_meaning::proofs::Stages::judged_large))]
 pub fn kept_of_text(
     alloc: Global,
@@ -29,7 +29,7 @@ pub fn kept_of_text(
     }
 }
 
-/// The same of a text that is not too large.
+/// The same for a text within the size limit.
 #[tactic(auto, using(answer_meaning::proofs::Stages::judged_bad))]
 fn kept_of_small(
     alloc: Global,
@@ -46,7 +46,7 @@ fn kept_of_small(
     }
 }
 
-/// The same of a certificate.
+/// The same for a certificate.
 fn kept_of(
     alloc: Global,
     exchange: &Exchange,

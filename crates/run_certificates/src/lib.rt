@@ -1,9 +1,9 @@
-// The certificate by which jobs of a run may run at once.
+// The certificate by which jobs of a run may run in parallel.
 //
-// What goes in: the text of a certificate that was given, or a run whose jobs are short as yet.
-// What comes out: what is kept of the certificate, which is that of the exchange, or its first
-// fault; the run at its end, or where its jobs have become long, with what is kept of the
-// exchange's own certificate. One job runs after the other here, and there are no threads.
+// In: the text of a given certificate, or a run whose jobs are still short. Out: the summaries kept
+// of the certificate, if it is one of the exchange, or its first fault; or the run at its end, or
+// in the state where its jobs have become long, with the summaries kept of the exchange's own
+// certificate. Jobs run sequentially here, without threads.
 #![tactic(auto)]
 
 mod given;

@@ -1,4 +1,4 @@
-// A run goes on by code for as long as its jobs are short.
+// Runs jobs by code for as long as they are short.
 ghost use Rattle.std.specs.Prelude.{IfOk, MatchOption};
 ghost use Rattle.store_layout.specs.Laid.{IsLayout};
 ghost use Rattle.machine_meaning.specs.Faithful.{Faithful};
@@ -18,24 +18,26 @@ use run_engines::ByCode;
 use std::alloc::Global;
 use store_layout::Layout;
 
-/// More instructions than the jobs of a run make: an analysis for which memory was refused is not
+/// More instructions than the jobs of a run execute: an analysis that was out of memory is not
 /// tried again.
 const NEVER: u64 = u64::MAX;
 
-/// What becomes of a run while its jobs are short.
+/// The result of a run while its jobs are short.
 #[derive(Drop)]
 pub enum Grown {
     /// It is over.
     Over(Ended),
-    /// Its jobs have become long, and this is kept of the exchange's own certificate.
+    /// Its jobs have become long, and these summaries of the exchange's own certificate are kept.
     Long(Standing, Checked),
 }
 
-/// Goes on for as long as jobs are short, one after the other, since the analysis and the threads
-/// cost more than those take; then the analysis is made, with a bound. Where it takes more, the run
-/// goes on as before until it has made so much that an analysis with twice the bound is a small
-/// part of that, and so on; where memory is refused for one, none is made again. Memory is the only
-/// reason for an error.
+/// Runs jobs sequentially for as long as they are short, since the analysis and the threads would
+/// cost more than such jobs take. Then analyses the exchange, with a bound on the work.
+///
+/// An analysis that would exceed the bound is given up. The run then continues as before until it
+/// has executed so many instructions that an analysis with twice the bound is a small part of them,
+/// and so on. After an analysis that is out of memory none is tried again. The only error is out of
+/// memory.
 #[tactic(auto, using(exchange_run::proofs::Resting::way_rules))]
 pub fn until_long<G: Gate>(
     alloc: Global,
@@ -71,8 +73,9 @@ pub fn until_long<G: Gate>(
     Ok(Grown::Over(end))
 }
 
-/// What is kept of the exchange's own certificate; nothing where it takes more looks, and there are
-/// least facts for them. Memory is the only reason for an error.
+/// The summaries kept of the exchange's own certificate; `None` if the analysis takes more than
+/// this many looks at facts, which the number of least facts found accounts for. The only error is
+/// out of memory.
 #[tactic(auto, using(certificate_check::proofs::Owning::given_up))]
 fn kept_within(alloc: Global, exchange: &Exchange, looks: usize) -> Result<Option<Checked>, Memory>
     ensures { IfOk result (λ kept. MatchOption kept
