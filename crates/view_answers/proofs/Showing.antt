@@ -1,4 +1,4 @@
--- The listing of code, and the jobs that a filter shows.
+-- The listing of code, and the jobs that a filter selects.
 use Rattle.std.proofs.Common.{◌≡◌, ℕ, List, ap, ◌∙◌, refl, map}
 use Rattle.exchange_model.specs.declared.exchange.Exchange.{Exchange}
 use Rattle.signal_file.specs.declared.line.Line.{Line}
@@ -33,13 +33,13 @@ listing_is x code text a ops entries status_is text_is listed =
     let told : a.text ≡ code_text (code_of x) = text_is ∙ listed.so ∙ ap code_text same in
     λ i. record { status = status_is i; text = told i }
 
--- ## The jobs that a filter shows
+-- ## The jobs that a filter selects
 
--- before the first line no job has ended
+-- no job has ended before the first line
 pub none_ended : (x : Exchange) (lines : List Coming) (b : State) (words : List ℕ) → with_words b words ≡ opening x lines → b.ended ≡ 0
 none_ended x lines b words begins = ap (λ (s : State). s.ended) begins
 
--- the text of the jobs that are shown of a run from its opening
+-- the text of the selected jobs, for a run from its start
 pub shown_of : (x : Exchange) (first other : State) (limit at : ℕ) (shows : List Show) (text : List ℕ) → first ≡ other
     → limit ≡ at → text ≡ trace_text x (trace x limit first shows) → text ≡ trace_text x (trace x at other shows)
 shown_of x first other limit at shows text begins is shown = shown ∙ (λ i. trace_text x (trace x (is i) (begins i) shows))

@@ -1,8 +1,7 @@
-// The answers of the commands that show what the others work with: the code of an exchange, and the
-// jobs of a run.
+// The answers of the commands that show the code of an exchange and the jobs of a run.
 //
-// What goes in: a shelf and names. What comes out: the listing of the code of an exchange; the jobs
-// of the single run that a filter shows, and its report. One job runs after the other here.
+// In: a shelf and file names. Out: the listing of an exchange's code; the jobs of the single run
+// that a filter selects, and the run's report. Jobs run sequentially here.
 #![tactic(auto)]
 
 mod listed;

@@ -16,8 +16,8 @@ use std::alloc::Global;
 use store_layout::layout_of;
 use text_parts::Text;
 
-/// `list`. It stops where the file cannot be read, at the first fault of its text, and wherever
-/// memory is refused.
+/// Performs `list`. Stops where the file is missing or cannot be read, at the first fault of its
+/// text, or out of memory.
 #[tactic(auto, using(answer_meaning::proofs::Stages::comes_rules))]
 pub fn perform_list<S: Shelf>(alloc: Global, shelf: &mut S, name: &Word) -> Result<Answer, Stop>
     ensures comes { Comes (S.held shelf.old) (list_of name.now) (S.faults shelf.old)

@@ -1,4 +1,4 @@
-// The single run, and the jobs of it that a filter shows.
+// The single run, and its jobs that a filter selects.
 ghost use Rattle.std.specs.Prelude.{◌≡◌, ◌≤◌, IfOk, map};
 ghost use Rattle.plex_limits.specs.declared.limits.TheConstants.{MOST_JOBS};
 ghost use Rattle.store_layout.specs.Laid.{IsLayout};
@@ -29,8 +29,8 @@ use signal_trace::{FilterFault, FilterRule, Show, Traced, read_filter, trace_run
 use std::alloc::Global;
 use store_layout::{Layout, layout_of};
 
-/// `trace`. It stops where a file cannot be read, at the first fault of the first file that has
-/// one, and wherever memory is refused.
+/// Performs `trace`. Stops where a file is missing or cannot be read, at the first fault of the
+/// first file that has one, or out of memory.
 #[tactic(auto, using(answer_meaning::proofs::Stages::comes_rules))]
 pub fn perform_trace<S: Shelf>(
     alloc: Global,
@@ -49,7 +49,8 @@ pub fn perform_trace<S: Shelf>(
     Ok(answer)
 }
 
-/// The lines of the filter of a file, which may be too large, or its first faulty line.
+/// The lines of a filter's file. Stops where the file is missing or cannot be read, at its first
+/// faulty line, or out of memory.
 #[tactic(auto, using(answer_meaning::proofs::Stages::comes_rules, answer_meaning::proofs::Stages::refused_rules))]
 fn shows_in<S: Shelf>(
     alloc: Global,
@@ -74,7 +75,7 @@ fn shows_in<S: Shelf>(
     }
 }
 
-/// The jobs of the single run of these lines that the filter shows, and then its report.
+/// The jobs of the single run of these lines that the filter selects, then the run's report.
 #[tactic(auto, using(crate::proofs::Showing::trace_is))]
 fn trace_answer(
     alloc: Global,
@@ -93,8 +94,7 @@ fn trace_answer(
     Ok(answer)
 }
 
-/// The single run of these lines, one job after the other, and the text of the jobs of it that the
-/// filter shows.
+/// Runs these lines sequentially, and writes the text of the jobs that the filter selects.
 #[tactic(auto, using(crate::proofs::Showing::traced_rules))]
 fn run_traced(
     alloc: Global,
@@ -115,8 +115,8 @@ fn run_traced(
     Ok(traced)
 }
 
-/// The same of books and words of which no job has ended: by compiled code, or by the source itself
-/// where that would be long.
+/// The same from books and words with no ended job: by compiled code, or by the source interpreter
+/// if the code would be too long.
 fn trace_from(
     alloc: Global,
     exchange: &Exchange,
