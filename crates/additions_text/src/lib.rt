@@ -1,4 +1,4 @@
-// Writes the additions of an exchange as a text.
+// Writes the additions of an exchange as a text (docs/OUTPUTS.md, Additions).
 //
 // In: an exchange with the summaries of its entries, and the pair of entries that is requested, if
 // any. Out: the variables and fields that each entry's jobs only add to, and for each pair its

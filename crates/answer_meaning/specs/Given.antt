@@ -29,7 +29,7 @@ text_of_file (Some bytes) = Ok (fitting MOST_BYTES bytes)
 abbrev pub text_at : Word → Files → Out (Option (List ℕ))
 text_at name files = text_of_file (files name)
 
--- the exchange that an exchange text denotes; `which` tells the command's exchange texts apart
+-- the exchange that an exchange text denotes; `which` says which of the command's texts it is
 abbrev pub exchange_of_file : Which → Option (List ℕ) → Out Exchange
 exchange_of_file which text = or_refused (source_refusal which) (exchange_of_text text)
 

@@ -60,15 +60,15 @@ abbrev pub or_certificate_fault : Option CertificateFault → Answer → Out Ans
 or_certificate_fault None a = Ok a
 or_certificate_fault (Some f) a = Err (certificate_refusal f)
 
--- a run with this answer comes to this where its certificate has such a text: a certificate of the
--- exchange changes nothing
+-- the outcome of a run with this answer and a certificate of this text: a valid certificate does
+-- not change the answer, any other text is refused
 pub record IsCertifiedRun (x : Exchange) (text : Option (List ℕ)) (a : Answer)
     (o : Out Answer) : Type 0 where
   pub fault : Option CertificateFault
   pub judged : IsJudged x text fault
   pub comes : or_certificate_fault fault a ≡ o
 
--- a run with the certificate of a file, which is read behind the signal file
+-- a run with the certificate of a file, which is read after the signal file
 abbrev pub RunsWith : RunWords → Word → Files → Out Answer → Type 0
 RunsWith w name files =
     ComesOf (exchange_at w.exchange files) (λ x.

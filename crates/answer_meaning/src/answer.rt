@@ -21,7 +21,7 @@ impl Drop for Answer {
 #[derive(Clone, Copy)]
 pub struct ProgramEnd {
     pub status: Status,
-    /// The fault whose line was written; `None` where no fault's line was written in full.
+    /// The fault whose line was written; `None` if no fault's line was written in full.
     pub fault: Option<FileFault>,
 }
 

@@ -20,7 +20,7 @@ pub enum Which {
 /// The first fault of an exchange text.
 #[derive(Clone, Copy, Debug)]
 pub struct SourceFault {
-    /// The line of the fault, from 1; 0 where it has none.
+    /// The line of the fault, from 1; 0 if it has none.
     pub line: u32,
     pub rule: Rule,
 }

@@ -1,4 +1,4 @@
-// Writes the conflicts of an exchange as a text.
+// Writes the conflicts of an exchange as a text (docs/OUTPUTS.md, All conflicts).
 //
 // In: an exchange with the summaries of its entries, and the pair of entries that is requested, if
 // any. Out: its analysis, then the program points that cause each access and each level of the

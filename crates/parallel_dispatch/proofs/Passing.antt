@@ -18,7 +18,7 @@ pub passes_by : (k : KeptSummaries) (a b : JobStart) (r : Bool)
     → OfPair k a.job.entry b.job.entry (λ m n. IsTrue r ↔ Passes m n a b) → IsTrue r → MayFollow k a b
 passes_by k a b r of t = record { one = of.one; other = of.other; of_first = of.of_first; of_later = of.of_later; holds = of.holds.0 t }
 
--- the job passes with each of the jobs of these loans
+-- the job passes the tests with the jobs of all these loans
 abbrev pub PassAll : KeptSummaries → JobStart → List Lent → Type 0
 PassAll k later loans = FollowsAll k (starts_of loans) later
 

@@ -1,5 +1,5 @@
 // The dispatcher's state: the books, the root of the store and the jobs in flight, which show a
-// state of the core of events.
+// state of the core of events (docs/THREADS.md, The steps).
 ghost use Rattle.std.specs.Prelude.{◌≡◌, ◌<◌, [], length, Some, IsTrue, IfOk, IfErr};
 ghost use Rattle.shared_store.specs.Loans.{unlent};
 ghost use Rattle.run_books.specs.Events.{ending_of};

@@ -1,5 +1,5 @@
 // The dispatcher: runs the jobs of an exchange in parallel where the analysis permits, with the
-// result of the single run.
+// result of the single run (docs/THREADS.md).
 //
 // In: threads, memory and a gate; the context (an exchange with its layout, its code and the
 // summaries kept of a certificate, and the most jobs at a time); the shared words; and books in

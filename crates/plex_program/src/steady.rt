@@ -13,7 +13,7 @@ use std::thread::Threads;
 
 /// `plex` over a steady shelf and a steady sink. No read fails and no file is missing. If the sink
 /// has room for the answer's text, no write fails either: the whole text is written and the status
-/// is the answer's, or the program is out of memory (`Memory`), and nothing was written. This
+/// is the answer's; or the program is out of memory (`Memory`) and has written nothing. This
 /// follows from the contract of `plex` alone, so it holds for each call of it with two such
 /// devices.
 #[tactic(auto, using(answer_meaning::proofs::Endings::whole_end, answer_meaning::proofs::Endings::silent_end))]

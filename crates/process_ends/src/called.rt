@@ -25,8 +25,8 @@ pub trait Called {
         sink: &mut K,
     ) -> ProgramEnd;
 
-    /// Reports wrong arguments on the standard error. `are_text` is false where an argument is not
-    /// UTF-8. Fails where the line cannot be written.
+    /// Reports wrong arguments on the standard error. `are_text` is false if an argument is not
+    /// UTF-8. Fails if the line cannot be written.
     fn say_wrong<R: Eprint>(&self, rt: &R, words: &[Word], are_text: bool) -> io::Result<()>;
 }
 
@@ -44,7 +44,7 @@ pub fn run_called<R: Env + AllocGlobal + Files + Print + Eprint, C: Called>(
     ExitCode::from(status.number())
 }
 
-/// The same with these arguments. They are empty where an argument is not UTF-8 (`are_text` false).
+/// The same with these arguments. They are empty if an argument is not UTF-8 (`are_text` false).
 fn run_words<R: AllocGlobal + Files + Print + Eprint, C: Called>(
     rt: &R,
     called: &C,

@@ -41,9 +41,9 @@ pub struct Known<'a> {
 /// What to report.
 #[derive(Clone, Copy, PartialEq, Eq)]
 enum Matter {
-    /// Nothing: the output is complete.
+    /// Nothing: the output says it all.
     Nothing,
-    /// Wrong arguments, which the program reports itself.
+    /// Wrong arguments, which the program itself reports.
     Words,
     /// A fault of a file, which the output's line names.
     Fault,
@@ -154,7 +154,7 @@ fn say_fault<R: Eprint>(rt: &R, fault: FileFault, files: &[Word]) -> io::Result<
     }
 }
 
-/// The line of a fault, from 1; 0 where it has none.
+/// The line of a fault, from 1; 0 if it has none.
 fn line_of(fault: FileFault) -> u32 {
     match fault {
         FileFault::Source { which: _, fault } => fault.line,
@@ -166,7 +166,7 @@ fn line_of(fault: FileFault) -> u32 {
     }
 }
 
-/// Names the command that lists all faults of the file, where plex-check reads such files.
+/// Names the command that lists all faults of the file, if plex-check reads such files.
 fn say_checker<R: Eprint>(rt: &R, fault: FileFault, files: &[Word]) -> io::Result<()> {
     match read_together(fault, files) {
         Some(files) => {
@@ -177,8 +177,8 @@ fn say_checker<R: Eprint>(rt: &R, fault: FileFault, files: &[Word]) -> io::Resul
     }
 }
 
-/// The files that plex-check reads to list all faults of this fault's file; `None` where it does
-/// not read such a file.
+/// The files that plex-check reads to list all faults of this fault's file; `None` if it does not
+/// read such a file.
 fn read_together(fault: FileFault, files: &[Word]) -> Option<&[Word]> {
     match fault {
         FileFault::Source {
@@ -198,7 +198,7 @@ fn read_together(fault: FileFault, files: &[Word]) -> Option<&[Word]> {
     }
 }
 
-/// The first `many` words; `None` where there are fewer.
+/// The first `many` words; `None` if there are fewer.
 fn first_of(words: &[Word], many: usize) -> Option<&[Word]> {
     let (first, _) = words.split_at_checked(many)?;
     Some(first)

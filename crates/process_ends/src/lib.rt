@@ -1,5 +1,6 @@
 // What a program needs around its one call: the command's arguments, a shelf that remembers failed
-// reads, a progress line, and the messages on the standard error for each end.
+// reads, a progress line, and the messages on the standard error for each end (docs/FORMATS.md, On
+// the standard error).
 //
 // In: a runtime, the devices of `plex_io`, and how a program ended (its status, and the fault that
 // it reported). Out: lines on the standard error. Standard output and status are those of the call;

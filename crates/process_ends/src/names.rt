@@ -2,7 +2,7 @@
 use plex_io::Word;
 use std::fmt;
 
-/// A file name as printed: unchanged where it is not empty and has no control character, so that it
+/// A file name as printed: unchanged if it is not empty and has no control character, so that it
 /// cannot steer a terminal; else in double quotes, with escapes such as `\n`.
 #[derive(Clone, Copy)]
 pub struct Named<'a>(pub &'a str);
@@ -32,8 +32,8 @@ impl fmt::Display for Names<'_> {
     }
 }
 
-/// An argument in quotes: single ones where it has no control character; else double ones, with
-/// escapes.
+/// An argument in quotes: single ones if it is not empty and has no control character; else double
+/// ones, with escapes.
 #[derive(Clone, Copy)]
 pub struct Quoted<'a>(pub &'a str);
 
@@ -52,7 +52,7 @@ fn is_plain(text: &str) -> bool {
     !text.is_empty() && !text.chars().any(|character| character.is_control())
 }
 
-/// The text of an argument; empty where it is not UTF-8.
+/// The text of an argument; empty if it is not UTF-8.
 pub fn text_of(word: &Word) -> &str {
     match str::from_utf8(word.as_slice()) {
         Ok(text) => text,

@@ -10,7 +10,7 @@ use plex_num::Seq;
 use std::alloc::Global;
 
 /// A shelf that wraps another one and remembers the last file whose read failed, as an index into
-/// the command's arguments, so that it needs no memory.
+/// the command's arguments, so that it allocates nothing.
 #[derive(Drop)]
 pub struct NotingShelf<'a, S> {
     shelf: S,
@@ -32,8 +32,8 @@ impl<'a, S: Shelf> NotingShelf<'a, S> {
         }
     }
 
-    /// The name of the last file whose read failed; `None` where no read failed, or where no
-    /// argument equals that name.
+    /// The name of the last file whose read failed; `None` if no read failed, or if no argument
+    /// equals that name.
     pub fn unread(&self) -> Option<&Word>
         ensures { MatchOption self.now.unread
             (result ≡ None)

@@ -52,7 +52,7 @@ pub fn is_asked<R: Env>(rt: &R) -> bool {
 }
 
 impl<'a, R: Clock + Eprint> Progress<'a, R> {
-    /// Starts the clock of a run; `None` where there is no clock.
+    /// Starts the clock of a run; `None` if there is no clock.
     pub fn begin(rt: &'a R) -> Option<Progress<'a, R>> {
         let begun = Instant::now(rt).ok()?;
         Some(Progress {
@@ -124,8 +124,8 @@ impl<R: Clock + Eprint> Gate for Progress<'_, R> {
     }
 }
 
-/// Whether to read the clock after the job of this number. `steps` is the number of its steps, 0
-/// where steps are not counted.
+/// Whether to read the clock after the job of this number. `steps` is the number of its steps, 0 if
+/// steps are not counted.
 #[inline]
 fn is_due(job: u64, steps: u64) -> bool {
     if steps == 0 {

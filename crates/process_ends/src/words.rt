@@ -6,7 +6,7 @@ use std::env;
 use std::io::ErrorKind;
 use std::rt::Env;
 
-/// The process's arguments without the program's name; `None` where one is not UTF-8.
+/// The process's arguments without the program's name; `None` if one is not UTF-8.
 pub fn words_of(rt: &(impl Env + AllocGlobal), alloc: Global) -> Result<Option<Vec<Word>>, Memory> {
     let mut words = Vec::new(alloc);
     let args = match env::args(rt) {

@@ -1,4 +1,5 @@
-// What is reported of a change, and what is carried over to the new exchange.
+// What is reported of a change, and what is carried over to the new exchange (docs/MACHINE.md,
+// Changing blocks while the exchange runs).
 ghost use Rattle.std.specs.Prelude.{◌≡◌, ◌≤◌, ◌++◌, IfOk, None, OnOk};
 ghost use Rattle.plex_limits.specs.declared.limits.TheConstants.{MOST_JOBS};
 ghost use Rattle.store_layout.specs.Laid.{IsLayout};
@@ -89,7 +90,7 @@ fn add_file(text: &mut Seq<u8>, exchange: &Exchange, file: u32) -> Result<(), Me
     text.append(place.file.name.as_slice())
 }
 
-/// Whether a run that ended so has fewer than `at` jobs, or stopped after a restart.
+/// Whether a run that ended so has fewer than `at` jobs, or stopped after its last restart.
 pub fn ends_before(end: &Ended, at: u32) -> bool
     ensures { result ≡ ends_before (ending_of end.now.ending) end.now.books.state.ended at }
 {
