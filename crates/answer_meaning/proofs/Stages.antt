@@ -113,7 +113,7 @@ performs_as held was work b a (Ok v) so c = record { ok = by held c.ok; stops = 
   by (Some files) c = so files (Ok v) c
 performs_as held was work b a (Err e) so c = record { ok = tt; stops = stops_on held was work b a e (λ files r. so files (Err r)) c.stops; later = c.later }
 
--- the same for functions
+-- an answer is passed on by a next stage that is a function
 on_err : {A B : Type 0} (s : Out A) (go : A → Out B) (r : Answer) → s ≡ Err r → goes_on s go ≡ Err r
 on_err s go r is = ap (λ s. goes_on s go) is
 
@@ -130,7 +130,7 @@ pub comes_go : {A B : Type 0} (held : Option Files) (f : Files → Out A) (g : F
 comes_go held f g b m a v r c d = went_on held f (λ files o. g files v ≡ o) (λ files o. goes_on (f files) (g files) ≡ o)
     b m a v r (λ files o is gone. on_ok (f files) (g files) v o is gone) c d
 
--- the same for relations
+-- an answer is passed on by a next stage that is a relation
 goes_err : {A : Type 0} (s : Out A) (Go : A → Out Answer → Type 0) (r : Answer) → s ≡ Err r → ComesOf s Go (Err r)
 goes_err s Go r is = subst (λ s. ComesOf s Go (Err r)) (sym is) refl
 

@@ -59,7 +59,7 @@ listed_before (Above l) (Field m w z) h = absurd h
 listed_before (Above l) (Seizing g) h = absurd h
 listed_before (Above l) (Above m) h = nat_less (level_number l) (level_number m) h
 
--- a row that is listed after another one is greater
+-- no row is listed before one whose conflict precedes its own
 
 behind : (r s : ClashRow) → clash_order s.clash r.clash ≡ Less → row_order r s ≡ Less → ⊥
 behind r s low less =

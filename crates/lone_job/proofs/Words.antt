@@ -37,7 +37,8 @@ use Rattle.lone_job.specs.Turns.{HasRunAlone}
 pub and_not : (a b : Bool) → a ≡ true → b ≡ false → (a && not b) ≡ true
 and_not a b e f = ap (λ t. t && not b) e ∙ ap (λ t. not t) f
 
--- stores that are allowed, and that no loan's permit may read, are allowed while the words are lent
+-- stores that are allowed, none of them to a word of a loan's permit, are allowed while words are
+-- lent
 pub free_stores : (t : Top) (ts : List Touch) → MayStore (is_word_of t.values) ts
     → ((l : Lent) → Has t.loans l → (w : ℕ) → may_read l.permit w ≡ true → NoStore w ts) → MayStore (free_to_write t) ts
 free_stores t [] may aside = tt

@@ -1,5 +1,5 @@
--- From the state before the first line to the end of a run: its limit, and the state that the
--- report is about.
+-- From the state before the first line to the end of a run: its limit, and the state that it starts
+-- from.
 use Rattle.std.proofs.Common.{◌≡◌, ℕ, ◌≤◌, sym, subst}
 use Rattle.plex_limits.specs.declared.limits.TheConstants.{MOST_JOBS}
 use Rattle.exchange_model.specs.declared.exchange.Exchange.{Exchange}
