@@ -162,8 +162,9 @@ fn drive<'s, 'e: 's, B: Course + Send + Sync, R: Threads + Wait + Sync, G: Gate 
     }
 }
 
-/// The most threads that run jobs beside the dispatcher, with this many workers: no more than there
-/// are processors, counted as at least two, and without that bound if their number is unknown.
+/// The most threads that run jobs beside the dispatcher: with the dispatcher as many as there are
+/// workers, or processors if there are fewer of these. Processors are counted as at least two, and
+/// are no bound if their number is unknown.
 fn helpers<R: Threads>(rt: &R, workers: u32) -> u64 {
     if workers < 2 {
         return 0;

@@ -39,9 +39,10 @@ pub enum Way {
 
 /// Continues the single run from these books and words to its end.
 ///
-/// Jobs run sequentially with one worker, and where the code would be too long to compile.
-/// Otherwise they run in parallel as far as the given certificate permits, or, if none is given,
-/// the exchange's own, which is made once jobs are long enough. The only error is out of memory.
+/// Jobs run sequentially with one worker, and by the source interpreter, which is used for
+/// `Way::Source` and where the code would be too long to compile. Otherwise they run in parallel as
+/// far as the given certificate permits, or, if none is given, the exchange's own, which is made
+/// once jobs are long enough. The only error is out of memory.
 #[tactic(auto, using(run_certificates::proofs::Growth::grown_rules))]
 pub fn go_on<R: Threads + Wait + Sync, G: Gate + Sync>(
     host: &Host<'_, R, G>,

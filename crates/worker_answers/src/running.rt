@@ -22,10 +22,10 @@ use std::sync::Wait;
 use std::thread::Threads;
 use store_layout::layout_of;
 
-/// The answer of the single run of these lines, within these bounds. Jobs run in parallel as far as
-/// the given certificate permits, or, if none is given, the exchange's own. They run sequentially
-/// with one worker, and where the exchange's own certificate would have so many facts that it takes
-/// long to make.
+/// The answer of the single run of these lines, executed in this way and within these bounds. Jobs
+/// run in parallel as far as the given certificate permits, or, if none is given, the exchange's
+/// own. They run sequentially with one worker, and where the exchange's own certificate would have
+/// so many facts that it takes long to make.
 #[tactic(auto, using(run_answers::proofs::Opened::limit_few))]
 pub fn run_answer<R: Threads + Wait + Sync, G: Gate + Sync>(
     host: &Host<'_, R, G>,
