@@ -18,7 +18,8 @@ pub struct BySource<'a, G> {
     alloc: Global,
     cases: Cases,
     gate: &'a G,
-    done: JobDone,
+    /// What the last job left, in whose place the next one begins; nothing before the first one.
+    done: Option<Box<JobDone>>,
     /// How many jobs have begun.
     begun: u64,
 }
@@ -34,23 +35,20 @@ impl<'a, G: Gate> BySource<'a, G> {
             alloc,
             cases,
             gate,
-            done: JobDone {
-                sends: Outbox::new(),
-                chain: Chain::new(),
-                outcome: Outcome::Ended,
-            },
+            done: None,
             begun: 0,
         })
     }
 }
 
 impl<'a, G: Gate> Runner for BySource<'a, G> {
-    ghost use Rattle.std.specs.Prelude.{◌≡◌};
+    ghost use Rattle.std.specs.Prelude.{◌≡◌, Some};
+    ghost use Rattle.std.specs.Option.{option_map};
     ghost use Rattle.source_interpreter.specs.Cases.{AreTablesOf};
 
     ghost runs = { λ r x. AreTablesOf r.cases x.blocks };
 
-    ghost has_left = { λ r d. r.done ≡ d };
+    ghost has_left = { λ r d. option_map (λ place. place.value) r.done ≡ Some d };
 
     fn run(
         &mut self,
@@ -60,16 +58,38 @@ impl<'a, G: Gate> Runner for BySource<'a, G> {
     ) -> Result<(), Memory> {
         self.begun = self.begun.wrapping_add(1);
         self.gate.at(self.begun, Moment::Before);
-        self.done = plain_job(self.alloc, exchange, &self.cases, words, start)?;
+        let place = place_of(self.alloc, self.done.take())?;
+        let done = plain_job(self.alloc, exchange, &self.cases, words, start, place)?;
+        self.done = Some(done);
         self.gate.at(self.begun, Moment::After { steps: 0 });
         Ok(())
     }
 
     fn done(&self) -> &JobDone {
-        &self.done
+        match &self.done {
+            Some(done) => done,
+            None => unreachable!(),
+        }
     }
 
     fn has_long_jobs(&self, _rest: Rest) -> bool {
         false
+    }
+}
+
+// Where a job may leave what it leaves: the place of the last one, or a new one where there was
+// none.
+fn place_of(alloc: Global, last: Option<Box<JobDone>>) -> Result<Box<JobDone>, Memory> {
+    if let Some(place) = last {
+        return Ok(place);
+    }
+    let empty = JobDone {
+        sends: Outbox::new(),
+        chain: Chain::new(),
+        outcome: Outcome::Ended,
+    };
+    match Box::new(alloc, empty) {
+        Ok(place) => Ok(place),
+        Err(_) => Err(Memory),
     }
 }

@@ -17,8 +17,10 @@ use std::alloc::Global;
 /// of the exchange.
 ///
 /// It takes every exchange, start and store; the words of the store and what the job leaves are
-/// those of the definition. `Memory` comes where there is no room for what remains to be done. The
-/// store then has the writes made so far: it is that of the job after a number of steps.
+/// those of the definition. What it leaves comes back in `place`, whatever an earlier job left
+/// there, so that one place serves all jobs. `Memory` comes where there is no room for what remains
+/// to be done. The store then has the writes made so far: it is that of the job after a number of
+/// steps.
 #[tactic(auto, using(crate::proofs::Ending::job_ends, crate::proofs::Ending::job_not_begun, crate::proofs::Ending::job_stops))]
 pub fn plain_job(
     alloc: Global,
@@ -26,19 +28,20 @@ pub fn plain_job(
     cases: &Cases,
     store: &mut Seq<u32>,
     start: &JobStart,
-) -> Result<JobDone, Memory>
+    place: Box<JobDone>,
+) -> Result<Box<JobDone>, Memory>
     requires { AreTablesOf cases.now exchange.now.blocks }
     ensures outcome { IfOk result (λ done.
-        (job exchange.now start.now store.old).over ≡ Some done.outcome) }
+        (job exchange.now start.now store.old).over ≡ Some done.value.outcome) }
     ensures sends { IfOk result (λ done.
-        (job exchange.now start.now store.old).own.sends ≡ done.sends) }
+        (job exchange.now start.now store.old).own.sends ≡ done.value.sends) }
     ensures chain { IfOk result (λ done.
-        (job exchange.now start.now store.old).own.chain ≡ done.chain) }
+        (job exchange.now start.now store.old).own.chain ≡ done.value.chain) }
     ensures store { OnOk result (store.new ≡ (job exchange.now start.now store.old).world.store) }
     ensures memory { OnErr result
         (IsReached exchange.now (begins exchange.now start.now store.old) store.new) }
 {
-    let mut run = Run::begin(alloc, exchange, cases, start)?;
+    let mut run = Run::begin(alloc, exchange, cases, start, place)?;
     let outcome = run.finish(store)?;
     Ok(run.into_done(outcome))
 }

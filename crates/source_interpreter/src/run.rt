@@ -32,7 +32,7 @@ use crate::view::View;
 use crate::words::{put, value_at};
 use crate::work::{Next, Work};
 use exchange_model::{Cond, Exchange, Expr, Receiver, SignalKind, Stmt};
-use job_types::{Chain, Fault, Held, JobDone, JobStart, Outbox, Outcome, SendTo, Sent};
+use job_types::{Chain, Fault, Held, JobDone, JobStart, Outcome, SendTo, Sent};
 use plex_limits::{MOST_COUNTED, MOST_HELD, MOST_SENT, MOST_TEMPORARIES, MOST_VALUES};
 use plex_num::{Memory, Seq, Values};
 use std::alloc::Global;
@@ -54,8 +54,8 @@ pub struct Run<'a> {
     spare: Vec<Work<'a>>,
     given: [u32; MOST_VALUES],
     answers: [u32; MOST_VALUES],
-    sends: Outbox,
-    chain: Chain,
+    // the sends and the chain so far, and once the job is over how it ended
+    done: Box<JobDone>,
     forlopp: u64,
     count: u32,
     point: u32,
@@ -82,8 +82,8 @@ impl<'a> Model for Run<'a> {
       own = record {
         given = r.given;
         answers = r.answers;
-        sends = r.sends;
-        chain = r.chain;
+        sends = r.done.value.sends;
+        chain = r.done.value.chain;
         forlopp = r.forlopp;
         count = r.count;
         point = r.point;
@@ -95,17 +95,21 @@ impl<'a> Model for Run<'a> {
 }
 
 impl<'a> Run<'a> {
-    /// A job at its start; past the last entry nothing remains to be done.
+    /// A job at its start, whose sends and chain are to stand in `place`; past the last entry
+    /// nothing remains to be done.
     pub fn begin(
         alloc: Global,
         exchange: &'a Exchange,
         cases: &'a Cases,
         start: &JobStart,
+        place: Box<JobDone>,
     ) -> Result<Run<'a>, Memory>
         requires { AreTablesOf cases.now exchange.now.blocks }
         ensures { IfOk result (λ run. run ≡ at_start exchange.now start.now) }
     {
         let values = start.job.values.as_slice();
+        let mut done = place;
+        begin_anew(&mut done, &start.chain);
         let mut run = Run {
             alloc,
             exchange,
@@ -118,8 +122,7 @@ impl<'a> Run<'a> {
             spare: Vec::new(alloc),
             given: eight(values),
             answers: [0; MOST_VALUES],
-            sends: Outbox::new(),
-            chain: start.chain.copy(),
+            done,
             forlopp: start.job.forlopp,
             count: 0,
             point: 0,
@@ -131,17 +134,14 @@ impl<'a> Run<'a> {
     }
 
     /// What the job leaves, which ended so.
-    pub fn into_done(self, outcome: Outcome) -> JobDone
-        ensures sends { result.sends ≡ self.entry.own.sends }
-        ensures chain { result.chain ≡ self.entry.own.chain }
-        ensures outcome { result.outcome ≡ outcome }
+    pub fn into_done(self, outcome: Outcome) -> Box<JobDone>
+        ensures sends { result.value.sends ≡ self.entry.own.sends }
+        ensures chain { result.value.chain ≡ self.entry.own.chain }
+        ensures outcome { result.value.outcome ≡ outcome }
     {
-        let Run { sends, chain, .. } = self;
-        JobDone {
-            sends,
-            chain,
-            outcome,
-        }
+        let Run { mut done, .. } = self;
+        done.outcome = outcome;
+        done
     }
 
     /// The point of the statement that was counted last.
@@ -175,7 +175,7 @@ impl<'a> Run<'a> {
             exchange: self.exchange,
             temps: &self.temps,
             store: store.as_slice(),
-            chain: self.chain.as_slice(),
+            chain: self.done.chain.as_slice(),
             first: self.first,
         }
     }
@@ -241,7 +241,7 @@ impl<'a> Run<'a> {
     pub fn check_record(&self, file: u32, place: &Place, number: u32) -> Result<(), Fault>
         ensures { result ≡ unless (pointer_fault self.now.own.chain file place.now number) }
     {
-        check_pointer(self.chain.as_slice(), file, place, number)
+        check_pointer(self.done.chain.as_slice(), file, place, number)
     }
 
     /// The cell of a variable of the block.
@@ -447,10 +447,10 @@ impl<'a> Run<'a> {
         ensures posted { OnOk result (self.new ≡ posted to values self.old) }
         ensures full { OnErr result (self.new ≡ self.old) }
     {
-        if self.sends.as_slice().len() >= MOST_SENT {
+        if self.done.sends.as_slice().len() >= MOST_SENT {
             return Err(Fault::Sends);
         }
-        self.sends.push(Sent { to, values });
+        self.done.sends.push(Sent { to, values });
         Ok(())
     }
 
@@ -461,10 +461,10 @@ impl<'a> Run<'a> {
         ensures held { OnOk result (self.new ≡ holding file number self.old) }
         ensures full { OnErr result (self.new ≡ self.old) }
     {
-        if self.chain.as_slice().len() >= MOST_HELD {
+        if self.done.chain.as_slice().len() >= MOST_HELD {
             return Err(Fault::Chain);
         }
-        self.chain.push(Held { file, number });
+        self.done.chain.push(Held { file, number });
         Ok(())
     }
 
@@ -472,8 +472,17 @@ impl<'a> Run<'a> {
     pub fn let_go(&mut self, file: u32, number: u32)
         ensures { self.new ≡ left file number self.old }
     {
-        remove_record(&mut self.chain, file, number);
+        remove_record(&mut self.done.chain, file, number);
     }
+}
+
+// A job begins anew in the place of another one: nothing is sent, and it holds this chain.
+fn begin_anew(done: &mut JobDone, chain: &Chain)
+    ensures sends { done.new.sends ≡ [] }
+    ensures chain { done.new.chain ≡ chain.now }
+{
+    done.sends.clear();
+    done.chain.copy_from(chain);
 }
 
 // The place of a record in a chain.
