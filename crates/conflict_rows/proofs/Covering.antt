@@ -54,7 +54,7 @@ covered (Seizes f) (Frees g) c e = By_any true (ap Frees (sym (eqb-true f g (cho
 covered (Frees f) (Seizes g) c e = By_any false (ap Seizes (sym (eqb-true f g (chosen (nat_eq f g) (conflict.Seizing f) c e).0)))
 covered _ _ c e = absurd (none-some c e)
 
-some_of : (o : Option Conflict) (y : Clash) → option_map listed o ≡ Some y → (c : Conflict) × (o ≡ Some c)
+pub some_of : (o : Option Conflict) (y : Clash) → option_map listed o ≡ Some y → (c : Conflict) × (o ≡ Some c)
 some_of (Some c) y e = (c, refl)
 some_of None y e = absurd (none-some y e)
 

@@ -1,9 +1,12 @@
 -- Rows that are found by one access, put together.
-use Rattle.std.proofs.Common.{◌≡◌, ◌⊎◌, inl, inr, ℕ, Bool, true, false, List, sym, subst}
+use Rattle.std.proofs.Common.{◌≡◌, ◌⊎◌, inl, inr, ⊎_elim, ℕ, Bool, true, false, List, refl, sym}
+use Rattle.std.proofs.Common.{subst}
 use Rattle.flow_points.specs.declared.fact.Value.{Value}
 use Rattle.flow_points.specs.declared.fact.Value.TheVariants.{Any}
 use Rattle.entry_summary.specs.declared.summary.Access.{Access}
+use Rattle.entry_summary.specs.declared.summary.Access.TheVariants.{Field}
 use Rattle.entry_accesses.specs.Adding.{Adds}
+use Rattle.pair_tests.specs.Asked.{asks}
 use Rattle.pair_tests.specs.Nearby.{near_access}
 use Rattle.conflicts_meaning.specs.declared.rows.ClashRow.{ClashRow}
 use Rattle.conflict_rows.specs.Near.{ClashesFirst, ClashesLater, IsOfFirst, NearFirst, NearLater}
@@ -34,6 +37,20 @@ both_first ones place other reads writes old now new is_read is_write =
     (λ r h. record { write = false; clashes = subst (λ b. ClashesFirst ones b place other r) is_read h })
     (λ r h. record { write = true; clashes = subst (λ b. ClashesFirst ones b place other r) is_write h })
     (λ r h. both (λ w. near_access other w Any) (λ b q. ClashesFirst ones b place other q) reads writes r is_read is_write h.write h.clashes)
+
+-- an access that is of no field has no selector of its own
+
+no_selector : (one : Access) → asks one ≡ false → selector_of one ≡ Any
+no_selector (Field w n u) none = cc
+no_selector _ none = refl
+
+pub with_any : (others : List Access) (place : ℕ) (one : Access) (old new : List ClashRow) → asks one ≡ false
+    → Adds old new (NearLater others Any place one) → Adds old new (IsOfFirst others place one)
+with_any others place one old new none h = record {
+  each = λ r c. ⊎_elim (λ o. inl o) (λ n. inr (inl n)) (h.each r c);
+  kept = h.kept;
+  added = λ r g. ⊎_elim (λ n. h.added r n) (λ n. h.added r (subst (λ v. NearLater others v place one r) (no_selector one none) n)) g;
+}
 
 pub with_own : (others : List Access) (place : ℕ) (one : Access) (own : Value) (old now new : List ClashRow) → own ≡ selector_of one
     → Adds old now (NearLater others Any place one) → Adds now new (NearLater others own place one) → Adds old new (IsOfFirst others place one)

@@ -8,3 +8,4 @@ pub mod Pointed
 pub mod Alone
 pub mod Rowing
 pub mod Bounded
+pub mod Passing

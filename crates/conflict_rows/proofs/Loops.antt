@@ -35,6 +35,19 @@ items_more {A} {B} G items n item old now new there h before = record {
         let it : g.given.item ≡ item = same_Some g.given.item item (sym g.given.there ∙ ap (slice_get items) same ∙ there) in
         subst (λ i. G i item a) same (subst (λ b. G g.given.place b a) it g.given.gives)
 
+-- items that give nothing are passed
+pub items_passed : {A B : Type 0} (G : ℕ → B → A → Type 0) (items : List B) (n m : ℕ) (old now : List A) → n ≤ m
+    → ((k : ℕ) (b : B) (a : A) → n ≤ k → k < m → slice_get items k ≡ Some b → G k b a → ⊥)
+    → Adds old now (GivenBelow G items n) → Adds old now (GivenBelow G items m)
+items_passed G items n m old now up none h = record {
+  each = λ a c. ⊎_elim (λ o. inl o) (λ g. inr (record { given = g.given; low = (let l = g.low in omega (arith, l, up)) })) (h.each a c);
+  kept = h.kept;
+  added = λ a g. ⊎_elim
+      (λ low. h.added a (record { given = g.given; low = low }))
+      (λ past. absurd (none g.given.place g.given.item a past g.low g.given.there g.given.gives))
+      (cases_lt g.given.place n);
+}
+
 pub items_end : {A B : Type 0} (G : ℕ → B → A → Type 0) (items : List B) (n : ℕ) (old new : List A)
     → length items ≤ n → Adds old new (GivenBelow G items n) → Adds old new (GivenBy G items)
 items_end G items n old new past h = record {

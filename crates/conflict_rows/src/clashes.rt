@@ -13,6 +13,7 @@ ghost use Rattle.conflict_rows.specs.Near.{IsOfLevel, IsOfLevelAt, NearFirst, Ne
 use crate::clash::{clash, listed};
 use crate::near::selector_of;
 use crate::places::{at, level_at, place_of};
+use crate::skip::{first_field, next_near};
 use conflicts_meaning::ClashRow;
 use entry_summary::{Access, Summary};
 use flow_points::Value;
@@ -34,19 +35,23 @@ pub fn clashes_of(alloc: Global, first: &Summary, later: &Summary) -> Result<Seq
     Ok(in_order(rows))
 }
 
-/// Appends what accesses of the first clash with that is found by them.
+/// Appends what accesses of the first clash with that is found by them. Those that none of the
+/// later is near are passed.
 fn push_of_first(ones: &[Access], others: &[Access], rows: &mut Seq<ClashRow>) -> Result<(), Memory>
-    requires { IsStrictlySortedBy access_order others.now }
+    requires ones { IsStrictlySortedBy access_order ones.now }
+    requires others { IsStrictlySortedBy access_order others.now }
     ensures { OnOk result (Adds rows.old rows.new (GivenBy (IsOfFirst others.now) ones.now)) }
 {
-    for place in 0..ones.len() {
+    let mut place = next_near(ones, others, 0);
+    while place < ones.len() {
         push_with(place, at(ones, place), others, rows)?;
+        place = next_near(ones, others, place + 1);
     }
     Ok(())
 }
 
-/// Appends what an access of the first clashes with: with those of its number that have its
-/// selector, and with those that have any.
+/// Appends what an access of the first clashes with: with those of its number that have any
+/// selector, and with those that have its own.
 fn push_with(
     place: usize,
     one: Access,
@@ -57,6 +62,9 @@ fn push_with(
     ensures { OnOk result (Adds rows.old rows.new (IsOfFirst others.now place one)) }
 {
     push_both(place, one, Value::Any, others, rows)?;
+    if !asks(one) {
+        return Ok(());
+    }
     push_both(place, one, selector_of(one), others, rows)?;
     Ok(())
 }
@@ -105,12 +113,16 @@ fn push_later(
 }
 
 /// Appends what fields of the later clash with of those that the first accesses in any record.
+/// Accesses of the later that none of the first is near are passed.
 fn push_of_later(ones: &[Access], others: &[Access], rows: &mut Seq<ClashRow>) -> Result<(), Memory>
-    requires { IsStrictlySortedBy access_order ones.now }
+    requires ones { IsStrictlySortedBy access_order ones.now }
+    requires others { IsStrictlySortedBy access_order others.now }
     ensures { OnOk result (Adds rows.old rows.new (GivenBy (IsOfLater ones.now) others.now)) }
 {
-    for place in 0..others.len() {
+    let mut place = next_near(others, ones, first_field(others));
+    while place < others.len() {
         push_field(place, at(others, place), ones, rows)?;
+        place = next_near(others, ones, place + 1);
     }
     Ok(())
 }
