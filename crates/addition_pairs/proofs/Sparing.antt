@@ -53,25 +53,21 @@ both_of first later taken given items one other h = subst (λ l. HasBoth first l
 
 -- accesses that stay
 
-kept_stays : (d : Targets) (a : Access) → (IsSpared d a → ⊥) → is_kept d a ≡ true
+pub kept_stays : (d : Targets) (a : Access) → (IsSpared d a → ⊥) → is_kept d a ≡ true
 kept_stays d (Variable write n) none = none_is (is_in d.variables n) (λ is. none (found_in n d.variables is))
 kept_stays d (Field write n v) none = none_is (is_in d.fields n) (λ is. none (found_in n d.fields is))
 kept_stays d (Own write n) none = refl
 kept_stays d (Seizes file) none = refl
 kept_stays d (Frees file) none = refl
 
-stays_kept : (d : Targets) (a : Access) → is_kept d a ≡ true → IsSpared d a → ⊥
+pub stays_kept : (d : Targets) (a : Access) → is_kept d a ≡ true → IsSpared d a → ⊥
 stays_kept d (Variable write n) is c = true≢false (sym is ∙ ap not (in_list d.variables n c))
 stays_kept d (Field write n v) is c = true≢false (sym is ∙ ap not (in_list d.fields n c))
 stays_kept d (Own write n) is c = c
 stays_kept d (Seizes file) is c = c
 stays_kept d (Frees file) is c = c
 
-pub kept_rising : (d : Targets) (accesses kept : List Access) → IsStrictlySortedBy access_order accesses
-    → kept ≡ filter (is_kept d) accesses → IsStrictlySortedBy access_order kept
-kept_rising d accesses kept up is = subst (IsStrictlySortedBy access_order) (sym is) (IsStrictlySortedBy-filter access_order (is_kept d) accesses up)
-
-pub is_sparing : (d : Targets) (m n : Summary) → n.level ≡ m.level → n.accesses ≡ filter (is_kept d) m.accesses
+is_sparing : (d : Targets) (m n : Summary) → n.level ≡ m.level → n.accesses ≡ filter (is_kept d) m.accesses
     → n.levels ≡ m.levels → n.fault ≡ m.fault → IsSparing d m n
 is_sparing d m n level accesses levels fault = record {
   level = level;
@@ -95,14 +91,17 @@ spared d m = record {
   levels_rising = m.levels_rising;
 }
 
+pub spares : (d : Targets) (m : Summary) → IsSparing d m (spared d m)
+unfolding spared
+spares d m = is_sparing d m (spared d m) refl refl refl refl
+
 abbrev pub of_both : Targets → Targets → Targets
 of_both d e = record { variables = filter (is_in e.variables) d.variables; fields = filter (is_in e.fields) d.fields }
 
 pub are_sparing : (first later : Summary) (d e : Targets) → AreSparing first later d e (spared (of_both d e) first) (spared (of_both d e) later)
-unfolding spared
 are_sparing first later d e = record {
   shared = of_both d e;
   are = record { variables = both d.variables e.variables (of_both d e).variables refl; fields = both d.fields e.fields (of_both d e).fields refl };
-  of_first = is_sparing (of_both d e) first (spared (of_both d e) first) refl refl refl refl;
-  of_later = is_sparing (of_both d e) later (spared (of_both d e) later) refl refl refl refl;
+  of_first = spares (of_both d e) first;
+  of_later = spares (of_both d e) later;
 }

@@ -1,6 +1,6 @@
 -- What is told with additions is that of the whole summaries, or another thing.
 use Rattle.std.proofs.Common.{◌≡◌, ◌↔◌, Bool, true, false, nat_eq, List, [], ◌∷◌, length, None}
-use Rattle.std.proofs.Common.{Some, Result, Ok, Err, IfOk, IsTrue, refl, sym, ap, ◌∙◌, subst, arith}
+use Rattle.std.proofs.Common.{Some, IsTrue, refl, sym, ap, ◌∙◌, subst, arith}
 use Rattle.std.specs.List.{Contains}
 use Rattle.std.proofs.lemmas.Bool.{and_parts, eqb-true, true≢false}
 use Rattle.plex_num.proofs.Members.{none_in}
@@ -23,13 +23,6 @@ told_once one other (Never c) (Never d) p q = ap Never (first_is_one one other c
 told_once one other (Never c) (Asks tests) p q = absurd (q.0 c p.conflict)
 told_once one other (Asks tests) (Never c) p q = absurd (p.0 c q.conflict)
 told_once one other (Asks a) (Asks b) p q = ap Asks (tests_once one other a b p.1 q.1)
-
-pub sparing_told : {M : Type 0} (first later one other : Summary) (shared : Targets) (r : Result Told M)
-    → IsSparing shared first one → IsSparing shared later other → IfOk r (IsTold one other)
-    → IfOk r (TellsSparing first later shared)
-sparing_told first later one other shared (Ok t) of_first of_later told =
-    record { one = one; other = other; of_first = of_first; of_later = of_later; told = told }
-sparing_told first later one other shared (Err m) of_first of_later told = tt
 
 -- nothing is shared
 

@@ -38,12 +38,12 @@ pub fn adding_of(
     Ok(Some(told))
 }
 
-/// What is told of the summaries without their accesses to these.
+/// What is told of the summaries without their accesses to these. An access of the later to one of
+/// these meets none that is left of the first, so that the later one is taken as it is.
 fn spared(alloc: Global, first: &Summary, later: &Summary, shared: &Added) -> Result<Told, Memory>
     requires { AreRising shared.now }
     ensures { IfOk result (TellsSparing first.now later.now (targets shared.now)) }
 {
-    let one = spare(alloc, first, shared)?;
-    let other = spare(alloc, later, shared)?;
-    told_of(alloc, &one, &other)
+    let left = spare(alloc, first, later, shared)?;
+    told_of(alloc, &left, later)
 }

@@ -1,27 +1,32 @@
-// A summary without some of its accesses.
-ghost use Rattle.std.specs.Prelude.{◌≡◌, not, IfOk};
-ghost use Rattle.std.specs.List.{filter};
-ghost use Rattle.additions_meaning.specs.Sparing.{IsSparing};
+// What is left of a summary to be looked at beside another one.
+ghost use Rattle.std.specs.Prelude.{◌≡◌, ◌<◌, Some, length, slice_get, IfOk, OnOk};
+ghost use Rattle.std.specs.List.Sorted.{IsStrictlySortedBy};
+ghost use Rattle.entry_summary.specs.Orders.{access_order};
 ghost use Rattle.entry_additions.specs.Added.{AreRising, targets};
 ghost use Rattle.addition_pairs.specs.Sparing.{is_in as is_in_list, is_kept as is_kept_of};
+ghost use Rattle.addition_pairs.specs.Left.{AreLeft, IsLeft, Leaves};
 
 use crate::shared::is_in;
+use conflict_rows::next_near;
 use entry_additions::Added;
 use entry_summary::{Access, Summary};
 use plex_num::{Level, Memory, Seq};
-use std::alloc::{AllocError, Global};
+use std::alloc::Global;
 
-/// A summary without its accesses to these variables and fields, which are in order. Memory is the
-/// only reason for an error.
-pub(crate) fn spare(alloc: Global, summary: &Summary, spared: &Added) -> Result<Summary, Memory>
+/// A summary without its accesses to these variables and fields, which are in order, and without
+/// those that none of the other summary is near. Memory is the only reason for an error.
+pub(crate) fn spare(
+    alloc: Global,
+    summary: &Summary,
+    other: &Summary,
+    spared: &Added,
+) -> Result<Summary, Memory>
     requires { AreRising spared.now }
-    ensures { IfOk result (IsSparing (targets spared.now) summary.now) }
+    ensures { IfOk result (IsLeft (targets spared.now) other.now.accesses summary.now) }
 {
-    let kept = match others(alloc, summary.accesses.as_slice(), spared) {
-        Ok(kept) => kept,
-        Err(_) => return Err(Memory),
-    };
-    let accesses = Seq::from_vec(kept);
+    let ones = summary.accesses.as_slice();
+    let others = other.accesses.as_slice();
+    let accesses = left(alloc, ones, others, spared)?;
     let levels = copied(alloc, summary.levels.as_slice())?;
     Ok(Summary {
         level: summary.level,
@@ -31,17 +36,48 @@ pub(crate) fn spare(alloc: Global, summary: &Summary, spared: &Added) -> Result<
     })
 }
 
-/// These accesses but those to these variables and fields.
-fn others(alloc: Global, accesses: &[Access], spared: &Added) -> Result<Vec<Access>, AllocError>
-    requires { AreRising spared.now }
-    ensures { IfOk result (λ kept.
-        kept.items ≡ filter (is_kept_of (targets spared.now)) accesses.now) }
+/// These accesses but those to these variables and fields, and but those that none of the others is
+/// near.
+fn left(
+    alloc: Global,
+    ones: &[Access],
+    others: &[Access],
+    spared: &Added,
+) -> Result<Seq<Access>, Memory>
+    requires ones { IsStrictlySortedBy access_order ones.now }
+    requires others { IsStrictlySortedBy access_order others.now }
+    requires spared { AreRising spared.now }
+    ensures left { IfOk result
+        (AreLeft (targets spared.now) others.now ones.now (length ones.now)) }
+    ensures rising { IfOk result (IsStrictlySortedBy access_order) }
 {
-    accesses
-        .iter()
-        .filter(|access| is_kept(**access, spared))
-        .copied()
-        .collect(alloc)
+    let mut kept = Seq::new(alloc);
+    let mut place = next_near(ones, others, 0);
+    while place < ones.len() {
+        push_kept(at(ones, place), spared, &mut kept)?;
+        place = next_near(ones, others, place + 1);
+    }
+    Ok(kept)
+}
+
+/// The access at a place.
+fn at(accesses: &[Access], place: usize) -> Access
+    requires { place < length accesses.now }
+    ensures { slice_get accesses.now place ≡ Some result }
+{
+    accesses[place]
+}
+
+/// Appends an access, if it is to none of these variables and fields.
+#[tactic(auto, using(crate::proofs::Leaving::one_kept, crate::proofs::Leaving::one_dropped))]
+fn push_kept(access: Access, spared: &Added, kept: &mut Seq<Access>) -> Result<(), Memory>
+    requires { AreRising spared.now }
+    ensures { OnOk result (Leaves (targets spared.now) access kept.old kept.new) }
+{
+    if is_kept(access, spared) {
+        return kept.push(access);
+    }
+    Ok(())
 }
 
 fn is_kept(access: Access, spared: &Added) -> bool
