@@ -1,4 +1,5 @@
-"""Texts that are dear for the tools for users, with what they may cost. For `test_large_texts.py`.
+"""Texts that are dear for the tools for users, and for plex-conflicts, with what they may cost. For
+`test_large_texts.py`.
 
 Each of `CASES` has files, the words of a tool, and bounds for the seconds of the processor and for
 the bytes of what it writes: some twice of what it takes.
@@ -22,17 +23,28 @@ class ToolCase(NamedTuple):
     written: int
 
 
+def common_statements(entries: int, declared: str, statements: str) -> Dict[str, bytes]:
+    """So many entries that all run the same statements."""
+    text = "".join(f"SIGNAL G{entry} SINGLE BUFFERED B DATA 0;\n" for entry in range(entries))
+    text += f"BLOCK K;\nDECLARE;\n{declared}SURVEY;\n"
+    text += "".join(f"RECEIVE G{entry};\n" for entry in range(entries)) + "PROGRAM;\n"
+    text += "".join(f"ENTER G{entry};\n" for entry in range(entries)) + statements + END
+    return {"E": text.encode()}
+
+
 def common_variables(entries: int, variables: int) -> Dict[str, bytes]:
     """So many entries that all add 1 to the same variables."""
-    text = (
-        "".join(f"SIGNAL G{entry} SINGLE BUFFERED B DATA 0;\n" for entry in range(entries))
-        + "BLOCK K;\nDECLARE;\n"
-    )
-    text += "".join(f"VARIABLE V{name} WIDTH 8;\n" for name in range(variables)) + "SURVEY;\n"
-    text += "".join(f"RECEIVE G{entry};\n" for entry in range(entries)) + "PROGRAM;\n"
-    text += "".join(f"ENTER G{entry};\n" for entry in range(entries))
-    text += "".join(f"V{name} = V{name} + 1;\n" for name in range(variables)) + END
-    return {"E": text.encode()}
+    declared = "".join(f"VARIABLE V{name} WIDTH 8;\n" for name in range(variables))
+    statements = "".join(f"V{name} = V{name} + 1;\n" for name in range(variables))
+    return common_statements(entries, declared, statements)
+
+
+def common_counter(entries: int, variables: int) -> Dict[str, bytes]:
+    """So many entries that all read the same variables, and add 1 to another one."""
+    declared = "".join(f"VARIABLE V{name} WIDTH 8;\n" for name in range(variables))
+    declared += "VARIABLE N WIDTH 32;\nTEMPORARY T;\n"
+    statements = "".join(f"T = V{name};\n" for name in range(variables)) + "N = N + 1;\n"
+    return common_statements(entries, declared, statements)
 
 
 def faulting_jobs(count: int) -> Dict[str, bytes]:
@@ -77,6 +89,14 @@ CASES = (
         0,
         1.1,
         10_000,
+    ),
+    ToolCase(
+        "plex-conflicts, 128 entries that add to one variable and read 1,000 others",
+        ["plex-conflicts", "E"],
+        lambda: common_counter(128, 1000),
+        0,
+        0.5,
+        9_000_000,
     ),
     ToolCase(
         "plex-check, 80,000 short blocks",
