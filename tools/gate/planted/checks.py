@@ -27,6 +27,7 @@ TESTS = (
     "lsp",
     "lsp_edits",
     "lsp_speed",
+    "outputs",
     "plex_chart",
     "plex_format",
     "plex_step",

@@ -366,6 +366,38 @@ OF_TEST = [
     ),
 ]
 
+OF_OUTPUTS = [
+    Edit(
+        "unwritten_ends_well",
+        "plex-chart",
+        "the status is 0 where the output cannot be written",
+        "outputs",
+        "tools/python/plextools/programs.py",
+        "        status = unwritten\n",
+        "        status = 0\n",
+        ("-k", "test_output or test_pipe"),
+    ),
+    Edit(
+        "help_unwritten",
+        "plex-load",
+        "help that cannot be written ends well",
+        "outputs",
+        "tools/python/plextools/programs.py",
+        "        sys.stdout.flush()\n        raise\n",
+        "        raise\n",
+        ("-k", "test_output or test_pipe"),
+    ),
+    Edit(
+        "closed_output_taken",
+        "plex-page",
+        "a page for a closed output is lost without a word",
+        "outputs",
+        "tools/python/plextools/streams.py",
+        'FULL = "/dev/full"',
+        "FULL = os.devnull",
+        ("-k", "as_a_file"),
+    ),
+]
 OF_LSP = [
     Edit(
         "whole_text_at_once",
@@ -388,4 +420,4 @@ OF_VSIX = [
         "",
     ),
 ]
-EDITS: List[Edit] = [*OF_CHECK, *OF_WHY, *OF_CHART, *OF_TEST, *OF_LSP, *OF_VSIX]
+EDITS: List[Edit] = [*OF_CHECK, *OF_WHY, *OF_CHART, *OF_TEST, *OF_OUTPUTS, *OF_LSP, *OF_VSIX]

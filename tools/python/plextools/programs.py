@@ -4,11 +4,11 @@
 launcher `plex`. `program()` finds one and looks whether it has the version of the tools,
 `answer(words)` gives what plex writes, and `lines_of(words)` gives that line by line as it comes.
 What keeps a tool from its work is raised as `Wrong`, and `run_tool(main)` tells it in one line on
-the standard error, or, where plex has refused a text, as plex tells it, with its status.
+the standard error, or, where plex has refused a text, as plex tells it, with its status; so it does
+where the standard output cannot be written.
 """
 import argparse
 import functools
-import io
 import os
 import pathlib
 import shutil
@@ -17,7 +17,7 @@ import sys
 import threading
 from typing import Callable, Iterator, Mapping, NamedTuple, NoReturn, Sequence, Tuple
 
-from plextools import VERSION, tables
+from plextools import VERSION, streams, tables
 
 ROOT = (
     pathlib.Path(__file__).resolve().parents[3]
@@ -254,26 +254,36 @@ def number_to(most: int) -> Callable[[str], int]:
     return number
 
 
-def run_tool(main: Callable[[], int]) -> None:
-    """Runs the main function of a tool, and ends with its status: 2 where something is wrong,
-    quietly where nobody reads on.
+def run_tool(main: Callable[[], int], unwritten: int = 2) -> None:
+    """Runs the main function of a tool, and ends with its status: 2 where something is wrong, and
+    `unwritten` where the standard output cannot be written, which is told unless it is a pipe that
+    nobody reads any more.
     """
     name = pathlib.Path(sys.argv[0]).name
-    for stream in (sys.stdout, sys.stderr):
-        if isinstance(stream, io.TextIOWrapper):
-            stream.reconfigure(errors="backslashreplace")
+    streams.take()
     try:
-        status = main()
+        status = status_of(main, name)
         sys.stdout.flush()
+    except streams.Unwritten as wrong:
+        streams.give_up()
+        if not wrong.is_unread:
+            print(f"{name}: the output could not be written: {wrong}", file=sys.stderr)
+        status = unwritten
+    except KeyboardInterrupt:
+        status = 130
+    sys.exit(status)
+
+
+def status_of(main: Callable[[], int], name: str) -> int:
+    """The status of a tool, which tells what is wrong."""
+    try:
+        return main()
     except Wrong as wrong:
         if wrong.refused:
             print(wrong.told)
         else:
             print(f"{name}: {wrong.told}", file=sys.stderr)
-        status = wrong.status
-    except BrokenPipeError:
-        os.dup2(os.open(os.devnull, os.O_WRONLY), sys.stdout.fileno())
-        status = 0
-    except KeyboardInterrupt:
-        status = 130
-    sys.exit(status)
+        return wrong.status
+    except SystemExit:  # behind the help or the version
+        sys.stdout.flush()
+        raise

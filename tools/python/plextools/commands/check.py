@@ -322,20 +322,5 @@ def main() -> int:
     except MemoryError:
         print("plex-check: out of memory", file=sys.stderr)
         return UNREADABLE
-    try:
-        report.write()
-    except BrokenPipeError:
-        os.dup2(os.open(os.devnull, os.O_WRONLY), sys.stdout.fileno())
-    except OSError as error:
-        print(f"plex-check: the output cannot be written: {error.strerror}", file=sys.stderr)
-        os.dup2(os.open(os.devnull, os.O_WRONLY), sys.stdout.fileno())
-        return UNREADABLE
+    report.write()
     return report.status
-
-
-def run() -> None:
-    """Runs the command, and ends with its status."""
-    try:
-        sys.exit(main())
-    except KeyboardInterrupt:
-        sys.exit(130)

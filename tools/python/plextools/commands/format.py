@@ -47,16 +47,8 @@ def main() -> int:
     """Runs the command."""
     gc.disable()
     given, status = parser().parse_args(), FINE
-    try:
-        for name in given.files or [STANDARD]:
-            status = max(status, attempted(name, given.check, given.diff))
-        sys.stdout.flush()
-    except OSError as wrong:  # what was not written is no success
-        os.dup2(os.open(os.devnull, os.O_WRONLY), sys.stdout.fileno())
-        if not isinstance(wrong, BrokenPipeError):
-            told = f"the output could not be written: {wrong.strerror}"
-            print(f"plex-format: {told}", file=sys.stderr)
-        return WRONG
+    for name in given.files or [STANDARD]:
+        status = max(status, attempted(name, given.check, given.diff))
     return status
 
 

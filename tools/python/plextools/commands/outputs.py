@@ -29,12 +29,11 @@ def write_bytes(name: str, parts: Iterable[bytes]) -> None:
     file, as a pipe, is written as it is.
     """
     try:
-        place = pathlib.Path(os.path.realpath(name))
-        if place.exists() and not place.is_file() and not place.is_dir():
-            with open(place, "wb") as file:
+        if os.path.exists(name) and not os.path.isfile(name) and not os.path.isdir(name):
+            with open(name, "wb") as file:
                 file.writelines(parts)
         else:
-            files.replace(place, parts)
+            files.replace(pathlib.Path(os.path.realpath(name)), parts)
     except (OSError, ValueError) as wrong:
         told = getattr(wrong, "strerror", None) or wrong
         raise Wrong(f"{quoted(name)} could not be written: {told}") from wrong

@@ -21,12 +21,6 @@ def analysis_in(name: Optional[str]) -> Analysis:
 
 def write(lines: Iterable[str]) -> int:
     """Writes the lines to the standard output."""
-    try:
-        for line in lines:
-            print(line)
-        sys.stdout.flush()
-    except BrokenPipeError:
-        raise
-    except OSError as wrong:
-        raise Wrong(f"the output: {wrong.strerror}", FAILED) from wrong
+    for line in lines:
+        print(line)
     return 0

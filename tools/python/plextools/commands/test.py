@@ -55,20 +55,8 @@ def parser() -> argparse.ArgumentParser:
 
 
 def main() -> int:
-    try:
-        status = act(parser().parse_args())
-        sys.stdout.flush()
-        return status
-    except OSError as wrong:  # what was not told is no success
-        os.dup2(os.open(os.devnull, os.O_WRONLY), sys.stdout.fileno())
-        if not isinstance(wrong, BrokenPipeError):
-            why = f"the output could not be written: {wrong.strerror}"
-            print(f"plex-test: {why}", file=sys.stderr)
-        return FAILED
-
-
-def act(words: argparse.Namespace) -> int:
     """Lists the cases, or runs them."""
+    words = parser().parse_args()
     chosen = chosen_cases(words.folders, words.parts)
     if words.list:
         for case in chosen:
