@@ -1,5 +1,5 @@
 // The commands: what stands behind the name of each, and what it does.
-use command_words::MOST_CALLS;
+use command_words::{CommandName, CommandOption, MOST_CALLS};
 use plex_limits::{MOST_JOBS, MOST_WORKERS};
 use process_ends::Program;
 
@@ -12,164 +12,105 @@ pub const PROGRAM: Program = Program {
 /// The names of the commands, as a sentence tells them.
 pub const NAMES: &str = "run, single, analyse, certify, list, load, timed, change or trace";
 
-/// An option.
-#[derive(Clone, Copy, PartialEq, Eq)]
-pub enum Choice {
-    Workers,
-    Jobs,
-    Certificate,
-}
+/// The commands, in the order of the usage line.
+pub static COMMANDS: [CommandName; 9] = [
+    CommandName::Run,
+    CommandName::Single,
+    CommandName::Analyse,
+    CommandName::Certify,
+    CommandName::List,
+    CommandName::Load,
+    CommandName::Timed,
+    CommandName::Change,
+    CommandName::Trace,
+];
 
-impl Choice {
-    /// The option of this name.
-    pub fn named(name: &str) -> Option<Choice> {
-        match name {
-            "--workers" => Some(Choice::Workers),
-            "--jobs" => Some(Choice::Jobs),
-            "--cert" => Some(Choice::Certificate),
-            _ => None,
-        }
-    }
-
-    pub fn name(self) -> &'static str {
-        match self {
-            Choice::Workers => "--workers",
-            Choice::Jobs => "--jobs",
-            Choice::Certificate => "--cert",
-        }
-    }
-
-    /// The largest number that may stand behind it; none where a file stands there.
-    pub fn most(self) -> Option<u32> {
-        match self {
-            Choice::Workers => Some(MOST_WORKERS as u32),
-            Choice::Jobs => Some(MOST_JOBS as u32),
-            Choice::Certificate => None,
-        }
-    }
-}
-
-/// The options that a command takes.
+/// What a sentence tells of a command.
 #[derive(Clone, Copy)]
-pub enum Choices {
-    Nothing,
-    Jobs,
-    WorkersAndJobs,
-    All,
-}
-
-impl Choices {
-    pub fn take(self, choice: Choice) -> bool {
-        match self {
-            Choices::Nothing => false,
-            Choices::Jobs => choice == Choice::Jobs,
-            Choices::WorkersAndJobs => choice != Choice::Certificate,
-            Choices::All => true,
-        }
-    }
-
-    /// The options, as a sentence tells them; none where there are none.
-    pub fn told(self) -> Option<&'static str> {
-        match self {
-            Choices::Nothing => None,
-            Choices::Jobs => Some("--jobs N"),
-            Choices::WorkersAndJobs => Some("--workers N or --jobs N"),
-            Choices::All => Some("--workers N, --jobs N or --cert F"),
-        }
-    }
-}
-
-/// What stands behind the name of a command.
 pub struct Form {
     pub name: &'static str,
-    /// How many words stand before the options.
-    pub words: usize,
-    /// These words, as a sentence tells them.
+    /// The words that stand behind the name, before the options.
     pub wants: &'static str,
-    /// The largest number that the last of these words may be; none where it is a file.
-    pub most: Option<u32>,
-    pub options: Choices,
+    /// The options; none where the command takes none.
+    pub options: Option<&'static str>,
     /// What the command does.
     pub does: &'static str,
 }
 
-/// The commands, in the order of the usage line.
-pub static FORMS: [Form; 9] = [
-    Form {
-        name: "run",
-        words: 2,
-        wants: "two files",
-        most: None,
-        options: Choices::All,
-        does: "run E S: runs the exchange text E with the signal file S, several jobs at once",
-    },
-    Form {
-        name: "single",
-        words: 2,
-        wants: "two files",
-        most: None,
-        options: Choices::Jobs,
-        does: "single E S: the same by the source itself, one job at a time",
-    },
-    Form {
-        name: "analyse",
-        words: 1,
-        wants: "one file",
-        most: None,
-        options: Choices::Nothing,
-        does: "analyse E: what the jobs of each entry may do, and which may run at once",
-    },
-    Form {
-        name: "certify",
-        words: 1,
-        wants: "one file",
-        most: None,
-        options: Choices::Nothing,
-        does: "certify E: the facts on which the analysis rests, as a certificate",
-    },
-    Form {
-        name: "list",
-        words: 1,
-        wants: "one file",
-        most: None,
-        options: Choices::Nothing,
-        does: "list E: the compiled code",
-    },
-    Form {
-        name: "load",
-        words: 1,
-        wants: "a number of calls",
-        most: Some(MOST_CALLS),
-        options: Choices::Nothing,
-        does: "load N: runs a load of N calls, and sums it up",
-    },
-    Form {
-        name: "timed",
-        words: 3,
-        wants: "three files",
-        most: None,
-        options: Choices::WorkersAndJobs,
-        does: "timed E S T: runs E with S and the periodic signals of the table T",
-    },
-    Form {
-        name: "change",
-        words: 4,
-        wants: "three files and a number of jobs",
-        most: Some(MOST_JOBS as u32),
-        options: Choices::WorkersAndJobs,
-        does: "change E S E2 K: runs E with S until K jobs have ended, and goes on with E2",
-    },
-    Form {
-        name: "trace",
-        words: 3,
-        wants: "three files",
-        most: None,
-        options: Choices::Jobs,
-        does: "trace E S Q: runs E with S, and lists the jobs that the filter Q shows",
-    },
-];
+/// What a sentence tells of this command.
+pub fn form_of(command: CommandName) -> Form {
+    match command {
+        CommandName::Run => Form {
+            name: "run",
+            wants: "two files",
+            options: Some("--workers N, --jobs N or --cert F"),
+            does: "run E S: runs the exchange text E with the signal file S, several jobs at once",
+        },
+        CommandName::Single => Form {
+            name: "single",
+            wants: "two files",
+            options: Some("--jobs N"),
+            does: "single E S: the same by the source itself, one job at a time",
+        },
+        CommandName::Analyse => Form {
+            name: "analyse",
+            wants: "one file",
+            options: None,
+            does: "analyse E: what the jobs of each entry may do, and which may run at once",
+        },
+        CommandName::Certify => Form {
+            name: "certify",
+            wants: "one file",
+            options: None,
+            does: "certify E: the facts on which the analysis rests, as a certificate",
+        },
+        CommandName::List => Form {
+            name: "list",
+            wants: "one file",
+            options: None,
+            does: "list E: the compiled code",
+        },
+        CommandName::Load => Form {
+            name: "load",
+            wants: "a number of calls",
+            options: None,
+            does: "load N: runs a load of N calls, and sums it up",
+        },
+        CommandName::Timed => Form {
+            name: "timed",
+            wants: "three files",
+            options: Some("--workers N or --jobs N"),
+            does: "timed E S T: runs E with S and the periodic signals of the table T",
+        },
+        CommandName::Change => Form {
+            name: "change",
+            wants: "three files and a number of jobs",
+            options: Some("--workers N or --jobs N"),
+            does: "change E S E2 K: runs E with S until K jobs have ended, and goes on with E2",
+        },
+        CommandName::Trace => Form {
+            name: "trace",
+            wants: "three files",
+            options: Some("--jobs N"),
+            does: "trace E S Q: runs E with S, and lists the jobs that the filter Q shows",
+        },
+    }
+}
 
-/// The command of this name.
-pub fn form_of(name: &str) -> Option<&'static Form> {
-    FORMS.iter().find(|form| form.name == name)
+/// The words in front of the number that a command wants, and the largest that it may be.
+pub fn number_of(command: CommandName) -> (&'static str, u32) {
+    match command {
+        CommandName::Change => ("change after", MOST_JOBS as u32),
+        _ => ("load", MOST_CALLS),
+    }
+}
+
+/// The name of an option, and the largest number that may stand behind it; none where a file stands
+/// there.
+pub fn option_of(option: CommandOption) -> (&'static str, Option<u32>) {
+    match option {
+        CommandOption::Workers => ("--workers", Some(MOST_WORKERS as u32)),
+        CommandOption::Jobs => ("--jobs", Some(MOST_JOBS as u32)),
+        CommandOption::Certificate => ("--cert", None),
+    }
 }

@@ -1,248 +1,42 @@
 -- Words that have a shape are read as its command, and words that are read have its shape.
-use Rattle.std.proofs.Common.{◌≡◌, ◌↔◌, inl, inr, ℕ, suc, ◌+◌, ◌≤◌, Bool, true, false, ◌&&◌, nat_eq}
-use Rattle.std.proofs.Common.{nat_le, List, [], ◌∷◌, length, Option, Some, None, refl, sym, ap, ◌∙◌}
-use Rattle.std.proofs.Common.{subst, arith}
-use Rattle.std.specs.Option.{option_map, unwrap_or}
-use Rattle.std.specs.Prelude.{codes, if◌then◌else◌}
+use Rattle.std.proofs.Common.{◌≡◌, ◌↔◌, inl, inr, ℕ, ◌≤◌, Bool, true, false, ◌&&◌, nat_le}
+use Rattle.std.proofs.Common.{List, [], ◌∷◌, Option, Some, None, refl, sym, ap, ◌∙◌, subst}
+use Rattle.std.specs.Option.{is_some, ok_or, option_map, option_or}
+use Rattle.std.specs.Prelude.{Result, Ok, Err, codes, if◌then◌else◌}
+use Rattle.std.specs.Result.{result_ok}
 use Rattle.std.specs.Str.{bytes_eq}
-use Rattle.std.proofs.lemmas.Bool.{and_from, and_parts, cases_Bool, cond-false, cond-true, eq-eqb}
-use Rattle.std.proofs.lemmas.Bool.{eqb-true, le-leb, leb-true}
+use Rattle.std.proofs.lemmas.Bool.{and_from, and_parts, cases_Bool, cond-false, cond-true, le-leb}
+use Rattle.std.proofs.lemmas.Bool.{leb-true, false≢true}
 use Rattle.std.proofs.lemmas.Option.{none-some, same_Some}
 use Rattle.std.proofs.lemmas.Slice.Eq.{bytes_eq-Decides}
 use Rattle.plex_limits.specs.declared.limits.TheConstants.{MOST_JOBS, MOST_WORKERS}
 use Rattle.plex_num.specs.Number.{number_of}
-use Rattle.command_words.specs.declared.command.TheConstants.{MOST_CALLS, USUAL_JOBS, USUAL_WORKERS}
-use Rattle.command_words.specs.declared.command.Bounds.{Bounds}
-use Rattle.command_words.specs.declared.command.ChangeWords.{ChangeWords}
+use Rattle.command_words.specs.declared.command.TheConstants.{MOST_CALLS}
 use Rattle.command_words.specs.declared.command.Command.{Command}
-use Rattle.command_words.specs.declared.command.Command.TheVariants.{Run, Single, Analyse, Certify}
-use Rattle.command_words.specs.declared.command.Command.TheVariants.{List as Listing, Load, Timed}
-use Rattle.command_words.specs.declared.command.Command.TheVariants.{Change, Trace}
+use Rattle.command_words.specs.declared.command.Command.TheVariants as command
 use Rattle.command_words.specs.declared.command.RunWords.{RunWords}
+use Rattle.command_words.specs.declared.fault.CommandName.{CommandName}
+use Rattle.command_words.specs.declared.fault.CommandName.TheVariants as name
+use Rattle.command_words.specs.declared.fault.CommandOption.{CommandOption}
+use Rattle.command_words.specs.declared.fault.CommandOption.TheVariants.{Workers, Jobs, Certificate}
+use Rattle.command_words.specs.declared.fault.WordsFault.{WordsFault}
+use Rattle.command_words.specs.declared.fault.WordsFault.TheVariants as fault
+use Rattle.command_words.specs.declared.options.OptionValues.{OptionValues}
 use Rattle.command_words.specs.Shapes.{AreOptions, AreReadAs, IsCount, IsShape, or_usual_jobs}
 use Rattle.command_words.specs.Shapes.{or_usual_workers, run_of}
 use Rattle.command_words.specs.Shapes.AreOptions.{NoOptions, TellCertificate, TellJobs, TellWorkers}
 use Rattle.command_words.specs.Shapes.IsShape.{Analyses, Certifies, Changes, Lists, Loads, Runs}
 use Rattle.command_words.specs.Shapes.IsShape.{RunsBySource, RunsTimed, Traces}
-use Rattle.command_words.specs.Words.{Word, allowed_calls, allowed_jobs, allowed_workers}
-use Rattle.command_words.specs.Words.{both_bounds, bounded_run, bounds_beside, calls_in, change_at}
-use Rattle.command_words.specs.Words.{change_words, jobs_beside, jobs_told, only_word, run_words}
-use Rattle.command_words.specs.Words.{shape, single_run, single_words, timed_words, trace_words}
-use Rattle.command_words.specs.Words.{value_of, words_of, workers_told}
+use Rattle.command_words.specs.Words.{Word, added, alone, change_words, command_behind}
+use Rattle.command_words.specs.Words.{command_named, command_of, count_of, has_told, load_words}
+use Rattle.command_words.specs.Words.{made_of, no_more, nothing_told, once_told, only_word}
+use Rattle.command_words.specs.Words.{open_option, option_named, options_of, run_by, run_told}
+use Rattle.command_words.specs.Words.{shape, taken, takes, then_read, timed_words}
+use Rattle.command_words.specs.Words.{told_with, trace_words, within}
 
--- ---- numbers
+-- ---- values that were read
 
-abbrev within : ℕ → ℕ → Option ℕ
-within most n = (if nat_le 1 n && nat_le n most then Some n else None)
-
-within_is : (most n : ℕ) → 1 ≤ n → n ≤ most → within most n ≡ Some n
-within_is most n some few = cond-true (nat_le 1 n && nat_le n most) (Some n) None (and_from (nat_le 1 n) (nat_le n most) (le-leb 1 n some) (le-leb n most few))
-
--- a test of a value, and its parts
-tested : {A : Type 0} (t : Bool) (x : Option A) (y : A) → (if t then x else None) ≡ Some y → (t ≡ true) × (x ≡ Some y)
-tested true x y is = (refl, is)
-tested false x y is = absurd (none-some y is)
-
--- one of the three numbers with a range: what is none is not allowed, and a number is where it is
--- within
-module _ (most : ℕ) (allowed : Option ℕ → Option ℕ) (no_number : allowed None ≡ None) (in_range : (n : ℕ) → allowed (Some n) ≡ within most n) where
-  count_read : (value : Word) (n : ℕ) → IsCount most value n → allowed (number_of value) ≡ Some n
-  count_read value n count = ap allowed count.number ∙ in_range n ∙ within_is most n count.some count.few
-
-  count_from : (value : Word) (n : ℕ) (o : Option ℕ) → number_of value ≡ o → allowed o ≡ Some n → IsCount most value n
-  count_from value n None read is = absurd (none-some n (sym no_number ∙ is))
-  count_from value n (Some m) read is =
-      let both = tested (nat_le 1 m && nat_le m most) (Some m) n (sym (in_range m) ∙ is) in
-      let same : m ≡ n = same_Some m n both.1 in
-      let parts = and_parts (nat_le 1 m) (nat_le m most) both.0 in
-      record {
-        number = read ∙ ap (λ k. Some k) same;
-        some = subst (λ (k : ℕ). 1 ≤ k) same (leb-true 1 m parts.0);
-        few = subst (λ (k : ℕ). k ≤ most) same (leb-true m most parts.1);
-      }
-
--- ---- options
-
--- an option with this value tells this
-data Tells (most : ℕ) : Option Word → Option ℕ → Type 0 where
-  Nothing : Tells most None None
-  Amount : (value : Word) (n : ℕ) → IsCount most value n → Tells most (Some value) (Some n)
-
-workers_are : {o : Option Word} {w : Option ℕ} → Tells MOST_WORKERS o w → workers_told o ≡ Some (or_usual_workers w)
-workers_are Nothing = refl
-workers_are (Amount value n count) = count_read MOST_WORKERS allowed_workers refl (λ m. refl) value n count
-
-jobs_are : {o : Option Word} {j : Option ℕ} → Tells MOST_JOBS o j → jobs_told o ≡ Some (or_usual_jobs j)
-jobs_are Nothing = refl
-jobs_are (Amount value n count) = count_read MOST_JOBS allowed_jobs refl (λ m. refl) value n count
-
--- what an option tells whose value is read as this number
-record HasTold (most usual : ℕ) (o : Option Word) (n : ℕ) : Type 0 where
-  told : Option ℕ
-  tells : Tells most o told
-  is : unwrap_or told usual ≡ n
-
-workers_from : (o : Option Word) (n : ℕ) → workers_told o ≡ Some n → HasTold MOST_WORKERS USUAL_WORKERS o n
-workers_from None n is = record { told = None; tells = Nothing; is = same_Some USUAL_WORKERS n is }
-workers_from (Some v) n is = record {
-  told = Some n;
-  tells = Amount v n (count_from MOST_WORKERS allowed_workers refl (λ m. refl) v n (number_of v) refl is);
-  is = refl;
-}
-
-jobs_from : (o : Option Word) (n : ℕ) → jobs_told o ≡ Some n → HasTold MOST_JOBS USUAL_JOBS o n
-jobs_from None n is = record { told = None; tells = Nothing; is = same_Some USUAL_JOBS n is }
-jobs_from (Some v) n is = record { told = Some n; tells = Amount v n (count_from MOST_JOBS allowed_jobs refl (λ m. refl) v n (number_of v) refl is); is = refl }
-
-abbrev for_workers : Word
-for_workers = codes "--workers"
-
-abbrev for_jobs : Word
-for_jobs = codes "--jobs"
-
-abbrev for_certificate : Word
-for_certificate = codes "--cert"
-
--- how many words the three options take
-abbrev used : List Word → ℕ
-used ws = words_of (value_of for_workers ws) + words_of (value_of for_jobs ws) + words_of (value_of for_certificate ws)
-
--- what the options of a shape have as values
-record Reads (ws : List Word) (w j : Option ℕ) (c : Option Word) : Type 0 where
-  workers : Tells MOST_WORKERS (value_of for_workers ws) w
-  jobs : Tells MOST_JOBS (value_of for_jobs ws) j
-  certificate : value_of for_certificate ws ≡ c
-  whole : length ws ≡ used ws
-
-told_none : {most : ℕ} {o : Option Word} → Tells most o None → words_of o ≡ 0
-told_none Nothing = refl
-
-reads : {ws : List Word} {w j : Option ℕ} {c : Option Word} → AreOptions ws w j c → Reads ws w j c
-reads NoOptions = record { workers = Nothing; jobs = Nothing; certificate = refl; whole = refl }
-reads (TellWorkers value n rest j c count more) =
-    let r = reads more in
-    let whole = r.whole in
-    let none = told_none r.workers in
-    let longer : suc (suc (length rest)) ≡ 2 + words_of (value_of for_jobs rest) + words_of (value_of for_certificate rest) = omega (arith, whole, none) in
-    record { workers = Amount value n count; jobs = r.jobs; certificate = r.certificate; whole = longer }
-reads (TellJobs value n rest w c count more) =
-    let r = reads more in
-    let whole = r.whole in
-    let none = told_none r.jobs in
-    let longer : suc (suc (length rest)) ≡ words_of (value_of for_workers rest) + 2 + words_of (value_of for_certificate rest) = omega (arith, whole, none) in
-    record { workers = r.workers; jobs = Amount value n count; certificate = r.certificate; whole = longer }
-reads (TellCertificate file rest w j more) =
-    let r = reads more in
-    let whole = r.whole in
-    let none : words_of (value_of for_certificate rest) ≡ 0 = ap words_of r.certificate in
-    let longer : suc (suc (length rest)) ≡ words_of (value_of for_workers rest) + words_of (value_of for_jobs rest) + 2 = omega (arith, whole, none) in
-    record { workers = r.workers; jobs = r.jobs; certificate = refl; whole = longer }
-
--- which option a word names
-data Named : Word → Type 0 where
-  ForWorkers : Named for_workers
-  ForJobs : Named for_jobs
-  ForCertificate : Named for_certificate
-  Other : (n : Word) → bytes_eq n for_workers ≡ false → bytes_eq n for_jobs ≡ false → bytes_eq n for_certificate ≡ false → Named n
-
-which : (n : Word) → Named n
-which n = elim (cases_Bool (bytes_eq n for_workers)) [
-  | inl is ↦ subst Named (sym ((bytes_eq-Decides n for_workers).0 is)) ForWorkers
-  | inr differs ↦ elim (cases_Bool (bytes_eq n for_jobs)) [
-    | inl is ↦ subst Named (sym ((bytes_eq-Decides n for_jobs).0 is)) ForJobs
-    | inr no2 ↦ elim (cases_Bool (bytes_eq n for_certificate)) [
-      | inl is ↦ subst Named (sym ((bytes_eq-Decides n for_certificate).0 is)) ForCertificate
-      | inr no3 ↦ Other n differs no2 no3
-    ]
-  ]
-]
-
-value_other : (name n v : Word) (rest : List Word) → bytes_eq n name ≡ false → value_of name (n ∷ v ∷ rest) ≡ value_of name rest
-value_other name n v rest differs = cond-false (bytes_eq n name) (Some v) (value_of name rest) differs
-
-used_other : (n v : Word) (rest : List Word) → bytes_eq n for_workers ≡ false → bytes_eq n for_jobs ≡ false
-    → bytes_eq n for_certificate ≡ false → used (n ∷ v ∷ rest) ≡ used rest
-used_other n v rest differs no2 no3 =
-    let w = value_other for_workers n v rest differs in
-    let j = value_other for_jobs n v rest no2 in
-    let c = value_other for_certificate n v rest no3 in
-    λ i. words_of (w i) + words_of (j i) + words_of (c i)
-
--- the words of the three options are among the words
-used_at : {n : Word} (v : Word) (rest : List Word) → Named n → used rest ≤ length rest → used (n ∷ v ∷ rest) ≤ length (n ∷ v ∷ rest)
-used_at v rest ForWorkers le =
-    let most : 2 + words_of (value_of for_jobs rest) + words_of (value_of for_certificate rest) ≤ suc (suc (length rest)) = omega (arith, le) in most
-used_at v rest ForJobs le =
-    let most : words_of (value_of for_workers rest) + 2 + words_of (value_of for_certificate rest) ≤ suc (suc (length rest)) = omega (arith, le) in most
-used_at v rest ForCertificate le =
-    let most : words_of (value_of for_workers rest) + words_of (value_of for_jobs rest) + 2 ≤ suc (suc (length rest)) = omega (arith, le) in most
-used_at v rest (Other n differs no2 no3) le = let e = used_other n v rest differs no2 no3 in subst
-    (λ (u : ℕ). u ≤ suc (suc (length rest))) (sym e) (omega (arith, le))
-
-used_within : (ws : List Word) → used ws ≤ length ws
-used_within [] = omega arith
-used_within (n ∷ []) = omega arith
-used_within (n ∷ v ∷ rest) = used_at v rest (which n) (used_within rest)
-
-none_of : (o : Option Word) → words_of o ≡ 0 → o ≡ None
-none_of None differs = refl
-none_of (Some v) differs = absurd (omega (arith, differs))
-
--- an option that takes no words tells nothing
-tells_none : (most : ℕ) (o : Option Word) → words_of o ≡ 0 → Tells most o None
-tells_none most o differs = subst (λ q. Tells most q None) (sym (none_of o differs)) Nothing
-
--- words that are all those of the three options are options
-abbrev AreGiven : List Word → Type 0
-AreGiven ws = (w j : Option ℕ) → length ws ≡ used ws → Tells MOST_WORKERS (value_of for_workers ws) w
-    → Tells MOST_JOBS (value_of for_jobs ws) j → AreOptions ws w j (value_of for_certificate ws)
-
-given_workers : {w : Option ℕ} (v : Word) (rest : List Word) (j : Option ℕ) → AreGiven rest
-    → suc (suc (length rest)) ≡ 2 + words_of (value_of for_jobs rest) + words_of (value_of for_certificate rest)
-    → Tells MOST_WORKERS (Some v) w → Tells MOST_JOBS (value_of for_jobs rest) j → AreOptions (for_workers ∷ v ∷ rest) w j (value_of for_certificate rest)
-given_workers v rest j given whole (Amount value n count) jobs =
-    let le = used_within rest in
-    let none : words_of (value_of for_workers rest) ≡ 0 = omega (arith, le, whole) in
-    TellWorkers v n rest j (value_of for_certificate rest) count
-    (given None j (omega (arith, none, whole)) (tells_none MOST_WORKERS (value_of for_workers rest) none) jobs)
-
-given_jobs : {j : Option ℕ} (v : Word) (rest : List Word) (w : Option ℕ) → AreGiven rest
-    → suc (suc (length rest)) ≡ words_of (value_of for_workers rest) + 2 + words_of (value_of for_certificate rest)
-    → Tells MOST_WORKERS (value_of for_workers rest) w → Tells MOST_JOBS (Some v) j → AreOptions (for_jobs ∷ v ∷ rest) w j (value_of for_certificate rest)
-given_jobs v rest w given whole workers (Amount value n count) =
-    let le = used_within rest in
-    let none : words_of (value_of for_jobs rest) ≡ 0 = omega (arith, le, whole) in
-    TellJobs v n rest w (value_of for_certificate rest) count
-    (given w None (omega (arith, none, whole)) workers (tells_none MOST_JOBS (value_of for_jobs rest) none))
-
-given_certificate : (v : Word) (rest : List Word) (w j : Option ℕ) → AreGiven rest
-    → suc (suc (length rest)) ≡ words_of (value_of for_workers rest) + words_of (value_of for_jobs rest) + 2
-    → Tells MOST_WORKERS (value_of for_workers rest) w → Tells MOST_JOBS (value_of for_jobs rest) j → AreOptions (for_certificate ∷ v ∷ rest) w j (Some v)
-given_certificate v rest w j given whole workers jobs =
-    let le = used_within rest in
-    let none : words_of (value_of for_certificate rest) ≡ 0 = omega (arith, le, whole) in
-    TellCertificate v rest w j (subst (AreOptions rest w j) (none_of (value_of for_certificate rest) none)
-    (given w j (omega (arith, none, whole)) workers jobs))
-
-given_at : {n : Word} (v : Word) (rest : List Word) → Named n → AreGiven rest → AreGiven (n ∷ v ∷ rest)
-given_at v rest ForWorkers given w j whole workers jobs = given_workers v rest j given whole workers jobs
-given_at v rest ForJobs given w j whole workers jobs = given_jobs v rest w given whole workers jobs
-given_at v rest ForCertificate given w j whole workers jobs = given_certificate v rest w j given whole workers jobs
-given_at v rest (Other n differs no2 no3) given w j whole workers jobs =
-    let le = used_within rest in
-    let e : suc (suc (length rest)) ≡ used rest = whole ∙ used_other n v rest differs no2 no3 in absurd (omega (arith, e, le))
-
-given_by : (ws : List Word) → AreGiven ws
-given_by [] w j whole workers jobs = nothing_given workers jobs
-  where
-    nothing_given : {w j : Option ℕ} → Tells MOST_WORKERS None w → Tells MOST_JOBS None j → AreOptions [] w j None
-    nothing_given Nothing Nothing = NoOptions
-given_by (n ∷ []) w j whole workers jobs = absurd (omega (arith, whole))
-given_by (n ∷ v ∷ rest) w j whole workers jobs = given_at v rest (which n) (given_by rest) w j whole workers jobs
-
--- ---- runs
-
--- a value that a mapped one came from
+-- a mapped value, and what it came from
 record Mapped {A B : Type 0} (f : A → B) (o : Option A) (y : B) : Type 0 where
   value : A
   there : o ≡ Some value
@@ -252,221 +46,526 @@ mapped : {A B : Type 0} (f : A → B) (o : Option A) (y : B) → option_map f o 
 mapped f None y is = absurd (none-some y is)
 mapped f (Some a) y is = record { value = a; there = refl; is = same_Some (f a) y is }
 
-both_from : (w j : Option ℕ) (b : Bounds) → both_bounds w j ≡ Some b → (w ≡ Some b.workers) × (j ≡ Some b.jobs)
-both_from None j b is = absurd (none-some b is)
-both_from (Some w) None b is = absurd (none-some b is)
-both_from (Some w) (Some j) b is =
-    let same = same_Some (record { workers = w; jobs = j }) b is in (ap (λ (q : Bounds). Some q.workers) same, ap (λ (q : Bounds). Some q.jobs) same)
+-- a value that is there
+ok_from : {A : Type 0} (o : Option A) (f : WordsFault) (y : A) → ok_or o f ≡ Ok y → o ≡ Some y
+ok_from None f y is = absurd (none-some y (ap result_ok is))
+ok_from (Some a) f y is = ap result_ok is
 
-run_read : {w j : Option ℕ} {c : Option Word} {options : List Word} (e s : Word) → AreOptions options w j c
-    → bounded_run e s options c ≡ Some (run_of e s (or_usual_workers w) (or_usual_jobs j) c)
-run_read {w} {j} {c} {options} e s given =
-    let r = reads given in
-    let workers : Option Word = value_of for_workers options in
-    let limit : Option Word = value_of for_jobs options in
-    let whole : length options ≡ words_of workers + words_of limit + words_of c =
-    r.whole ∙ ap (λ q. words_of workers + words_of limit + words_of q) r.certificate in
-    ap (λ t. option_map (λ (b : Bounds). run_of e s b.workers b.jobs c)
-    (if t then both_bounds (workers_told workers) (jobs_told limit) else None))
-    (eq-eqb (length options) (words_of workers + words_of limit + words_of c) whole)
-    ∙ ap (λ q. option_map (λ (b : Bounds). run_of e s b.workers b.jobs c) (both_bounds q (jobs_told limit))) (workers_are r.workers)
-    ∙ ap (λ q. option_map (λ (b : Bounds). run_of e s b.workers b.jobs c) (both_bounds (Some (or_usual_workers w)) q)) (jobs_are r.jobs)
+same_Ok : {A : Type 0} (a b : A) → ◌≡◌ {A = Result A WordsFault} (Ok a) (Ok b) → a ≡ b
+same_Ok a b is = same_Some a b (ap result_ok is)
 
-single_read : {j : Option ℕ} {options : List Word} (e s : Word) → AreOptions options None j None
-    → single_run e s options ≡ Some (run_of e s 1 (or_usual_jobs j) None)
-single_read {j} {options} e s given =
-    let r = reads given in
-    let limit : Option Word = value_of for_jobs options in
-    let sum = r.whole in
-    let no_workers = told_none r.workers in
-    let no_certificate : words_of (value_of for_certificate options) ≡ 0 = ap words_of r.certificate in
-    let whole : length options ≡ words_of limit = omega (arith, sum, no_workers, no_certificate) in
-    ap (λ t. option_map (λ jobs. run_of e s 1 jobs None) (if t then jobs_told limit else None)) (eq-eqb (length options) (words_of limit) whole)
-    ∙ ap (option_map (λ jobs. run_of e s 1 jobs None)) (jobs_are r.jobs)
+-- what was read on with
+record Read {A B : Type 0} (r : Result A WordsFault) (more : A → Result B WordsFault) (y : B) : Type 0 where
+  value : A
+  there : r ≡ Ok value
+  is : more value ≡ Ok y
 
--- a run that was read, by options
-record Ran (e s : Word) (options : List Word) (c : Option Word) (run : RunWords) : Type 0 where
+read : {A B : Type 0} (r : Result A WordsFault) (more : A → Result B WordsFault) (y : B) → then_read r more ≡ Ok y → Read r more y
+read (Err f) more y is = absurd (none-some y (ap result_ok is))
+read (Ok a) more y is = record { value = a; there = refl; is = is }
+
+-- a test of a value, and its parts
+tested : {A : Type 0} (t : Bool) (x : Option A) (y : A) → (if t then x else None) ≡ Some y → (t ≡ true) × (x ≡ Some y)
+tested true x y is = (refl, is)
+tested false x y is = absurd (none-some y is)
+
+-- ---- numbers
+
+within_is : (most n : ℕ) → 1 ≤ n → n ≤ most → within most (Some n) ≡ Some n
+within_is most n some few = cond-true (nat_le 1 n && nat_le n most) (Some n) None (and_from (nat_le 1 n) (nat_le n most) (le-leb 1 n some) (le-leb n most few))
+
+count_read : (most : ℕ) (value : Word) (n : ℕ) → IsCount most value n → count_of most value ≡ Some n
+count_read most value n count = ap (within most) count.number ∙ within_is most n count.some count.few
+
+within_from : (most : ℕ) (value : Word) (n : ℕ) (o : Option ℕ) → number_of value ≡ o → within most o ≡ Some n → IsCount most value n
+within_from most value n None number is = absurd (none-some n is)
+within_from most value n (Some m) number is =
+    let both = tested (nat_le 1 m && nat_le m most) (Some m) n is in
+    let same : m ≡ n = same_Some m n both.1 in
+    let parts = and_parts (nat_le 1 m) (nat_le m most) both.0 in
+    record {
+      number = number ∙ ap (λ k. Some k) same;
+      some = subst (λ (k : ℕ). 1 ≤ k) same (leb-true 1 m parts.0);
+      few = subst (λ (k : ℕ). k ≤ most) same (leb-true m most parts.1);
+    }
+
+count_from : (most : ℕ) (value : Word) (n : ℕ) → count_of most value ≡ Some n → IsCount most value n
+count_from most value n is = within_from most value n (number_of value) refl is
+
+-- ---- options
+
+-- the word of an option
+abbrev word_of : CommandOption → Word
+word_of Workers = codes "--workers"
+word_of Jobs = codes "--jobs"
+word_of Certificate = codes "--cert"
+
+-- the name that a word is where a test of it chooses, and else another test
+chosen : {K : Type 0} (spelled : K → Word) (word text : Word) (k c : K) (y : Option K)
+    → text ≡ spelled k → (y ≡ Some c → word ≡ spelled c)
+    → (if bytes_eq word text then Some k else y) ≡ Some c → word ≡ spelled c
+chosen spelled word text k c y of other is = elim (cases_Bool (bytes_eq word text)) [
+  | inl same ↦ (bytes_eq-Decides word text).0 same ∙ of ∙ ap spelled (same_Some k c (sym (cond-true (bytes_eq word text) (Some k) y same) ∙ is))
+  | inr differs ↦ other (sym (cond-false (bytes_eq word text) (Some k) y differs) ∙ is)
+]
+
+names_option : (word : Word) (o : CommandOption) → option_named word ≡ Some o → word ≡ word_of o
+names_option word o =
+    chosen word_of word (codes "--workers") Workers o _ refl
+    (chosen word_of word (codes "--jobs") Jobs o _ refl
+    (chosen word_of word (codes "--cert") Certificate o _ refl (λ none. absurd (none-some o none))))
+
+-- an option may tell this behind what was told before, or it tells nothing
+abbrev MayTell : {A : Type 0} → Bool → Option A → Option A → Type 0
+MayTell {A} t before told = (a : A) → told ≡ Some a → (t ≡ true) × (before ≡ None)
+
+-- the options of a command may tell this behind so much
+record MayTellAll (c : CommandName) (t : OptionValues) (w j : Option ℕ) (f : Option Word) : Type 0 where
+  workers : MayTell (takes c Workers) t.workers w
+  jobs : MayTell (takes c Jobs) t.jobs j
+  certificate : MayTell (takes c Certificate) t.certificate f
+
+-- an option that tells nothing
+silent : {A : Type 0} (t : Bool) (before : Option A) → MayTell t before None
+silent t before a is = absurd (none-some a is)
+
+-- what may tell nothing tells nothing
+untold : {A : Type 0} (told : Option A) → ((a : A) → told ≡ Some a → ⊥) → told ≡ None
+untold None not_told = refl
+untold (Some a) not_told = absurd (not_told a refl)
+
+not_there : {A : Type 0} (o : Option A) → is_some o ≡ false → o ≡ None
+not_there None is = refl
+not_there (Some a) is = absurd (false≢true (sym is))
+
+-- so much, and what is told behind it
+abbrev joined : OptionValues → Option ℕ → Option ℕ → Option Word → OptionValues
+joined t w j f = record {
+  workers = option_or w t.workers;
+  jobs = option_or j t.jobs;
+  certificate = option_or f t.certificate;
+}
+
+-- one option more is told
+add_read : (c : CommandName) (t u : OptionValues) (o : CommandOption) (word value : Word) → option_named word ≡ Some o → takes c o ≡ true
+    → has_told t o ≡ false → told_with t o value ≡ Some u → added t value (open_option c t word) ≡ Ok u
+add_read c t u o word value names takes_it free told =
+    ap (λ q. added t value (then_read (ok_or (taken c q) (fault.UnknownOption c word)) (once_told t))) names
+    ∙ ap (λ (q : Bool). added t value (then_read (ok_or (if q then Some o else None) (fault.UnknownOption c word)) (once_told t))) takes_it
+    ∙ ap (λ (q : Bool). added t value (if q then Err (fault.OptionTwice o) else Ok o)) free
+    ∙ ap (λ q. ok_or q (fault.BadValue o value)) told
+
+on_with : (c : CommandName) (t u : OptionValues) (word value : Word) (rest : List Word) → added t value (open_option c t word) ≡ Ok u
+    → options_of c t (word ∷ value ∷ rest) ≡ options_of c u rest
+on_with c t u word value rest is = ap (λ q. then_read q (λ m. options_of c m rest)) is
+
+-- what is told behind so much, once one option more is told
+pub told_on : (c : CommandName) (t u : OptionValues) (ws behind more : List Word) (word value : Word) (start : Result OptionValues WordsFault)
+    → ws ≡ word ∷ behind → behind ≡ value ∷ more → Ok u ≡ added t value (open_option c t word)
+    → options_of c t ws ≡ start → options_of c u more ≡ start
+told_on c t u ws behind more word value start first_is next_is told at =
+    sym (ap (options_of c t) (first_is ∙ ap (λ b. word ∷ b) next_is) ∙ on_with c t u word value more (sym told)) ∙ at
+
+options_read : {ws : List Word} {w j : Option ℕ} {f : Option Word} (c : CommandName) (t : OptionValues) → AreOptions ws w j f → MayTellAll c t w j f
+    → options_of c t ws ≡ Ok (joined t w j f)
+options_read c t NoOptions may = refl
+options_read c t (TellWorkers value n rest j f count more) may =
+    let free = may.workers n refl in
+    let u : OptionValues = record t { workers = Some n } in
+    on_with c t u (codes "--workers") value rest (add_read c t u Workers (codes "--workers") value refl free.0 (ap is_some free.1)
+    (ap (option_map (λ k. record t { workers = Some k })) (count_read MOST_WORKERS value n count)))
+    ∙ options_read c u more (record { workers = silent (takes c Workers) u.workers; jobs = may.jobs; certificate = may.certificate })
+options_read c t (TellJobs value n rest w f count more) may =
+    let free = may.jobs n refl in
+    let u : OptionValues = record t { jobs = Some n } in
+    on_with c t u (codes "--jobs") value rest (add_read c t u Jobs (codes "--jobs") value refl free.0 (ap is_some free.1)
+    (ap (option_map (λ k. record t { jobs = Some k })) (count_read MOST_JOBS value n count)))
+    ∙ options_read c u more (record { workers = may.workers; jobs = silent (takes c Jobs) u.jobs; certificate = may.certificate })
+options_read c t (TellCertificate file rest w j more) may =
+    let free = may.certificate file refl in
+    let u : OptionValues = record t { certificate = Some file } in
+    on_with c t u (codes "--cert") file rest (add_read c t u Certificate (codes "--cert") file refl free.0 (ap is_some free.1) refl)
+    ∙ options_read c u more (record { workers = may.workers; jobs = may.jobs; certificate = silent (takes c Certificate) u.certificate })
+
+-- an option that was told
+record Adds (c : CommandName) (t u : OptionValues) (word value : Word) : Type 0 where
+  option : CommandOption
+  names : word ≡ word_of option
+  takes_it : takes c option ≡ true
+  free : has_told t option ≡ false
+  told : told_with t option value ≡ Some u
+
+once_from : (t : OptionValues) (a o : CommandOption) → once_told t a ≡ Ok o → (has_told t a ≡ false) × (a ≡ o)
+once_from t a o is = elim (cases_Bool (has_told t a)) [
+  | inl twice ↦ absurd (none-some o (ap result_ok (sym (cond-true (has_told t a) (Err (fault.OptionTwice a)) (Ok a) twice) ∙ is)))
+  | inr free ↦ (free, same_Ok a o (sym (cond-false (has_told t a) (Err (fault.OptionTwice a)) (Ok a) free) ∙ is))
+]
+
+taken_from : (c : CommandName) (q : Option CommandOption) (o : CommandOption) → taken c q ≡ Some o → (takes c o ≡ true) × (q ≡ Some o)
+taken_from c None o is = absurd (none-some o is)
+taken_from c (Some a) o is =
+    let both = tested (takes c a) (Some a) o is in
+    (subst (λ q. takes c q ≡ true) (same_Some a o both.1) both.0, both.1)
+
+adds : (c : CommandName) (t u : OptionValues) (word value : Word) → added t value (open_option c t word) ≡ Ok u → Adds c t u word value
+adds c t u word value is =
+    let r = read (open_option c t word) (λ o. ok_or (told_with t o value) (fault.BadValue o value)) u is in
+    let q = read (ok_or (taken c (option_named word)) (fault.UnknownOption c word)) (once_told t) r.value r.there in
+    let once = once_from t q.value r.value q.is in
+    let take = taken_from c (option_named word) q.value (ok_from (taken c (option_named word)) (fault.UnknownOption c word) q.value q.there) in
+    record {
+      option = r.value;
+      names = names_option word r.value (take.1 ∙ ap (λ o. Some o) once.1);
+      takes_it = subst (λ o. takes c o ≡ true) once.1 take.0;
+      free = subst (λ o. has_told t o ≡ false) once.1 once.0;
+      told = ok_from (told_with t r.value value) (fault.BadValue r.value value) u r.is;
+    }
+
+-- options that were read behind so much
+record Given (c : CommandName) (t u : OptionValues) (ws : List Word) : Type 0 where
   w : Option ℕ
   j : Option ℕ
-  given : AreOptions options w j c
-  is : run_of e s (or_usual_workers w) (or_usual_jobs j) c ≡ run
+  f : Option Word
+  options : AreOptions ws w j f
+  may : MayTellAll c t w j f
+  is : joined t w j f ≡ u
 
-run_from : (e s : Word) (options : List Word) (c : Option Word) (run : RunWords)
-    → (words_of (value_of for_certificate options) ≤ words_of c → value_of for_certificate options ≡ c)
-    → bounded_run e s options c ≡ Some run → Ran e s options c run
-run_from e s options c run same is =
-    let workers : Option Word = value_of for_workers options in
-    let limit : Option Word = value_of for_jobs options in
-    let m = mapped (λ (b : Bounds). run_of e s b.workers b.jobs c) (bounds_beside options workers limit c) run is in
-    let test = tested (nat_eq (length options) (words_of workers + words_of limit + words_of c))
-    (both_bounds (workers_told workers) (jobs_told limit)) m.value m.there in
-    let whole : length options ≡ words_of workers + words_of limit + words_of c =
-    eqb-true (length options) (words_of workers + words_of limit + words_of c) test.0 in
-    let both = both_from (workers_told workers) (jobs_told limit) m.value test.1 in
-    let w = workers_from workers m.value.workers both.0 in
-    let j = jobs_from limit m.value.jobs both.1 in
-    let most = used_within options in
-    let certificate : value_of for_certificate options ≡ c = same (omega (arith, most, whole)) in
-    let all : length options ≡ used options = whole ∙ ap (λ q. words_of workers + words_of limit + words_of q) (sym certificate) in
+-- an option that is told cannot be told again behind it
+not_again : {A : Type 0} (t : Bool) (a : A) (told : Option A) → MayTell t (Some a) told → told ≡ None
+not_again t a told may = untold told (λ b is. none-some a (sym (may b is).1))
+
+given_workers : (c : CommandName) (t u : OptionValues) (n : ℕ) (value : Word) (rest : List Word) → takes c Workers ≡ true → is_some t.workers ≡ false
+    → IsCount MOST_WORKERS value n → Given c (record t { workers = Some n }) u rest → Given c t u (codes "--workers" ∷ value ∷ rest)
+given_workers c t u n value rest takes_it free count g =
+    let none = not_again (takes c Workers) n g.w g.may.workers in
     record {
-      w = w.told;
-      j = j.told;
-      given = subst (AreOptions options w.told j.told) certificate (given_by options w.told j.told all w.tells j.tells);
-      is = ap (λ n. run_of e s n (or_usual_jobs j.told) c) w.is ∙ ap (λ n. run_of e s m.value.workers n c) j.is ∙ m.is;
+      w = Some n;
+      j = g.j;
+      f = g.f;
+      options = TellWorkers value n rest g.j g.f count (subst (λ w. AreOptions rest w g.j g.f) none g.options);
+      may = record { workers = λ k is. (takes_it, not_there t.workers free); jobs = g.may.jobs; certificate = g.may.certificate };
+      is = ap (λ w. joined (record t { workers = Some n }) w g.j g.f) (sym none) ∙ g.is;
     }
 
+given_jobs : (c : CommandName) (t u : OptionValues) (n : ℕ) (value : Word) (rest : List Word) → takes c Jobs ≡ true → is_some t.jobs ≡ false
+    → IsCount MOST_JOBS value n → Given c (record t { jobs = Some n }) u rest → Given c t u (codes "--jobs" ∷ value ∷ rest)
+given_jobs c t u n value rest takes_it free count g =
+    let none = not_again (takes c Jobs) n g.j g.may.jobs in
+    record {
+      w = g.w;
+      j = Some n;
+      f = g.f;
+      options = TellJobs value n rest g.w g.f count (subst (λ j. AreOptions rest g.w j g.f) none g.options);
+      may = record { workers = g.may.workers; jobs = λ k is. (takes_it, not_there t.jobs free); certificate = g.may.certificate };
+      is = ap (λ j. joined (record t { jobs = Some n }) g.w j g.f) (sym none) ∙ g.is;
+    }
+
+given_certificate : (c : CommandName) (t u : OptionValues) (file : Word) (rest : List Word) → takes c Certificate ≡ true → is_some t.certificate ≡ false
+    → Given c (record t { certificate = Some file }) u rest → Given c t u (codes "--cert" ∷ file ∷ rest)
+given_certificate c t u file rest takes_it free g =
+    let none = not_again (takes c Certificate) file g.f g.may.certificate in
+    record {
+      w = g.w;
+      j = g.j;
+      f = Some file;
+      options = TellCertificate file rest g.w g.j (subst (AreOptions rest g.w g.j) none g.options);
+      may = record { workers = g.may.workers; jobs = g.may.jobs; certificate = λ k is. (takes_it, not_there t.certificate free) };
+      is = ap (joined (record t { certificate = Some file }) g.w g.j) (sym none) ∙ g.is;
+    }
+
+given_with : (c : CommandName) (t m u : OptionValues) (o : CommandOption) (value : Word) (rest : List Word) → takes c o ≡ true → has_told t o ≡ false
+    → told_with t o value ≡ Some m → Given c m u rest → Given c t u (word_of o ∷ value ∷ rest)
+given_with c t m u Workers value rest takes_it free told g =
+    let n = mapped (λ k. record t { workers = Some k }) (count_of MOST_WORKERS value) m told in
+    given_workers c t u n.value value rest takes_it free (count_from MOST_WORKERS value n.value n.there) (subst (λ q. Given c q u rest) (sym n.is) g)
+given_with c t m u Jobs value rest takes_it free told g =
+    let n = mapped (λ k. record t { jobs = Some k }) (count_of MOST_JOBS value) m told in
+    given_jobs c t u n.value value rest takes_it free (count_from MOST_JOBS value n.value n.there) (subst (λ q. Given c q u rest) (sym n.is) g)
+given_with c t m u Certificate value rest takes_it free told g =
+    given_certificate c t u value rest takes_it free
+    (subst (λ q. Given c q u rest) (sym (same_Some (record t { certificate = Some value }) m told)) g)
+
+given : (c : CommandName) (t u : OptionValues) (ws : List Word) → options_of c t ws ≡ Ok u → Given c t u ws
+given c t u [] is = record {
+  w = None;
+  j = None;
+  f = None;
+  options = NoOptions;
+  may = record { workers = silent (takes c Workers) t.workers; jobs = silent (takes c Jobs) t.jobs; certificate = silent (takes c Certificate) t.certificate };
+  is = same_Ok t u is;
+}
+given c t u (word ∷ []) is = absurd (none-some u (ap result_ok is))
+given c t u (word ∷ value ∷ rest) is =
+    let r = read (added t value (open_option c t word)) (λ m. options_of c m rest) u is in
+    let a = adds c t r.value word value r.there in
+    subst (λ n. Given c t u (n ∷ value ∷ rest)) (sym a.names)
+    (given_with c t r.value u a.option value rest a.takes_it a.free a.told (given c r.value u rest r.is))
+
+-- ---- runs
+
+-- all that options tell
+abbrev told_all : Option ℕ → Option ℕ → Option Word → OptionValues
+told_all w j f = record { workers = w; jobs = j; certificate = f }
+
+or_none : {A : Type 0} (o : Option A) → option_or o None ≡ o
+or_none None = refl
+or_none (Some a) = refl
+
+joined_nothing : (w j : Option ℕ) (f : Option Word) → joined nothing_told w j f ≡ told_all w j f
+joined_nothing w j f = λ i. told_all (or_none w i) (or_none j i) (or_none f i)
+
+run_read : {w j : Option ℕ} {f : Option Word} {options : List Word} (c : CommandName) (e s : Word) → AreOptions options w j f
+    → MayTellAll c nothing_told w j f → run_by c e s options ≡ Ok (run_told c e s (told_all w j f))
+run_read {w} {j} {f} c e s are may = ap (made_of (run_told c e s)) (options_read c nothing_told are may ∙ ap (λ t. Ok t) (joined_nothing w j f))
+
+-- an option that a command takes may be the first
+first : {A : Type 0} (told : Option A) → MayTell true None told
+first told a is = (refl, refl)
+
+-- a run that was read
+record Ran (c : CommandName) (e s : Word) (options : List Word) (run : RunWords) : Type 0 where
+  w : Option ℕ
+  j : Option ℕ
+  f : Option Word
+  are : AreOptions options w j f
+  may : MayTellAll c nothing_told w j f
+  is : run_told c e s (told_all w j f) ≡ run
+
+ran : (c : CommandName) (e s : Word) (options : List Word) (run : RunWords) → run_by c e s options ≡ Ok run → Ran c e s options run
+ran c e s options run is =
+    let r = read (options_of c nothing_told options) (λ t. Ok (run_told c e s t)) run is in
+    let g = given c nothing_told r.value options r.there in
+    record {
+      w = g.w;
+      j = g.j;
+      f = g.f;
+      are = g.options;
+      may = g.may;
+      is = ap (run_told c e s) (sym (joined_nothing g.w g.j g.f) ∙ g.is) ∙ same_Ok (run_told c e s r.value) run r.is;
+    }
+
+-- an option that a command does not take tells nothing
+not_taken : {A : Type 0} (before told : Option A) → MayTell false before told → told ≡ None
+not_taken before told may = untold told (λ a is. false≢true (may a is).0)
+
+-- a run without a certificate that was read
+record RanBounded (e s : Word) (options : List Word) (run : RunWords) : Type 0 where
+  w : Option ℕ
+  j : Option ℕ
+  are : AreOptions options w j None
+  is : run_of e s (or_usual_workers w) (or_usual_jobs j) None ≡ run
+
+-- a run with one worker that was read
 record RanAlone (e s : Word) (options : List Word) (run : RunWords) : Type 0 where
   j : Option ℕ
-  given : AreOptions options None j None
+  are : AreOptions options None j None
   is : run_of e s 1 (or_usual_jobs j) None ≡ run
 
-single_from : (e s : Word) (options : List Word) (run : RunWords) → single_run e s options ≡ Some run → RanAlone e s options run
-single_from e s options run is =
-    let workers : Option Word = value_of for_workers options in
-    let limit : Option Word = value_of for_jobs options in
-    let m = mapped (λ jobs. run_of e s 1 jobs None) (jobs_beside options limit) run is in
-    let test = tested (nat_eq (length options) (words_of limit)) (jobs_told limit) m.value m.there in
-    let whole : length options ≡ words_of limit = eqb-true (length options) (words_of limit) test.0 in
-    let j = jobs_from limit m.value test.1 in
-    let most = used_within options in
-    let no_workers : words_of workers ≡ 0 = omega (arith, most, whole) in
-    let no_certificate : words_of (value_of for_certificate options) ≡ 0 = omega (arith, most, whole) in
-    record {
-      j = j.told;
-      given =
-          subst (AreOptions options None j.told) (none_of (value_of for_certificate options) no_certificate)
-          (given_by options None j.told (omega (arith, whole, no_workers, no_certificate)) (tells_none MOST_WORKERS workers no_workers) j.tells);
-      is = ap (λ n. run_of e s 1 n None) j.is ∙ m.is;
-    }
+module _ (c : CommandName) (no_certificate : takes c Certificate ≡ false) (e s : Word) (options : List Word) (run : RunWords) (r : Ran c e s options run) where
+  uncertified : r.f ≡ None
+  uncertified = not_taken None r.f (subst (λ t. MayTell t None r.f) no_certificate r.may.certificate)
 
-no_certificate : (o : Option Word) → words_of o ≤ 0 → o ≡ None
-no_certificate o le = none_of o (omega (arith, le))
+  bounded : takes c Workers ≡ true → RanBounded e s options run
+  bounded workers = record {
+    w = r.w;
+    j = r.j;
+    are = subst (AreOptions options r.w r.j) uncertified r.are;
+    is =
+        ap (λ (t : Bool). run_of e s (if t then or_usual_workers r.w else 1) (or_usual_jobs r.j) None) (sym workers)
+        ∙ ap (λ f. run_told c e s (told_all r.w r.j f)) (sym uncertified) ∙ r.is;
+  }
+
+  alone_run : takes c Workers ≡ false → RanAlone e s options run
+  alone_run no_workers =
+      let none = not_taken None r.w (subst (λ t. MayTell t None r.w) no_workers r.may.workers) in
+      record {
+        j = r.j;
+        are = subst (λ w. AreOptions options w r.j None) none (subst (AreOptions options r.w r.j) uncertified r.are);
+        is =
+            ap (λ (t : Bool). run_of e s (if t then or_usual_workers r.w else 1) (or_usual_jobs r.j) None) (sym no_workers)
+            ∙ ap (λ f. run_told c e s (told_all r.w r.j f)) (sym uncertified) ∙ r.is;
+      }
 
 -- ---- commands
 
-shape_read : {words : List Word} {c : Command} → IsShape words c → shape words ≡ Some c
-shape_read (Runs e s options w j c given) = ap (λ q. option_map Run (bounded_run e s options q))
-    (reads given).certificate ∙ ap (option_map Run) (run_read e s given)
-shape_read (RunsBySource e s options j given) = ap (option_map Single) (single_read e s given)
-shape_read (Analyses e) = refl
-shape_read (Certifies e) = refl
-shape_read (Lists e) = refl
-shape_read (Loads value n count) = ap (option_map Load) (count_read MOST_CALLS allowed_calls refl (λ m. refl) value n count)
-shape_read (RunsTimed e s t options w j given) = ap
-    (λ o. option_map Timed (option_map (λ (r : RunWords). record { run = r; table = t }) o)) (run_read e s given)
-shape_read (Changes e s new k at options w j count given) =
-    ap (λ o. option_map Change (change_at new o (bounded_run e s options None))) (count_read MOST_JOBS allowed_jobs refl (λ m. refl) k at count)
-    ∙ ap (λ o. option_map Change (change_at new (Some at) o)) (run_read e s given)
-shape_read (Traces e s q options j given) = ap (λ o. option_map Trace (option_map (λ (r : RunWords). record { run = r; filter = q }) o)) (single_read e s given)
+-- options of a run with workers and a limit of jobs
+bounded_may : (c : CommandName) (w j : Option ℕ) → takes c Workers ≡ true → takes c Jobs ≡ true → MayTellAll c nothing_told w j None
+bounded_may c w j workers jobs = record {
+  workers = λ a is. (workers, refl);
+  jobs = λ a is. (jobs, refl);
+  certificate = silent (takes c Certificate) None;
+}
 
-of_run : (rest : List Word) (c : Command) → option_map Run (run_words rest) ≡ Some c → IsShape (codes "run" ∷ rest) c
-of_run [] c is = absurd (none-some c is)
-of_run (e ∷ []) c is = absurd (none-some c is)
+-- options of a run with a limit of jobs
+alone_may : (c : CommandName) (j : Option ℕ) → takes c Jobs ≡ true → MayTellAll c nothing_told None j None
+alone_may c j jobs = record {
+  workers = silent (takes c Workers) None;
+  jobs = λ a is. (jobs, refl);
+  certificate = silent (takes c Certificate) None;
+}
+
+command_read : {words : List Word} {c : Command} → IsShape words c → command_of words ≡ Ok c
+command_read (Runs e s options w j f are) =
+    ap (made_of command.Run) (run_read name.Run e s are (record { workers = first w; jobs = first j; certificate = first f }))
+command_read (RunsBySource e s options j are) = ap (made_of command.Single) (run_read name.Single e s are (alone_may name.Single j refl))
+command_read (Analyses e) = refl
+command_read (Certifies e) = refl
+command_read (Lists e) = refl
+command_read (Loads value n count) =
+    ap (λ o. made_of command.Load (then_read (ok_or o (fault.BadNumber name.Load value)) (λ k. alone k None))) (count_read MOST_CALLS value n count)
+command_read (RunsTimed e s t options w j are) =
+    ap (λ o. made_of command.Timed (made_of (λ (r : RunWords). record { run = r; table = t }) o))
+    (run_read name.Timed e s are (bounded_may name.Timed w j refl refl))
+command_read (Changes e s new k at options w j count are) =
+    ap (λ o. made_of command.Change (then_read (ok_or o (fault.BadNumber name.Change k))
+    (λ n. made_of (λ (r : RunWords). record { run = r; new = new; at = n }) (run_by name.Change e s options)))) (count_read MOST_JOBS k at count)
+    ∙ ap (λ o. made_of command.Change (made_of (λ (r : RunWords). record { run = r; new = new; at = at }) o))
+    (run_read name.Change e s are (bounded_may name.Change w j refl refl))
+command_read (Traces e s q options j are) =
+    ap (λ o. made_of command.Trace (made_of (λ (r : RunWords). record { run = r; filter = q }) o)) (run_read name.Trace e s are (alone_may name.Trace j refl))
+
+-- a value that was made of what was read
+record Made {A B : Type 0} (make : A → B) (r : Result A WordsFault) (y : B) : Type 0 where
+  value : A
+  there : r ≡ Ok value
+  is : make value ≡ y
+
+made : {A B : Type 0} (make : A → B) (r : Result A WordsFault) (y : B) → made_of make r ≡ Ok y → Made make r y
+made make (Err f) y is = absurd (none-some y (ap result_ok is))
+made make (Ok a) y is = record { value = a; there = refl; is = same_Ok (make a) y is }
+
+missing : {A : Type 0} (f : WordsFault) (y : A) → ◌≡◌ {A = Result A WordsFault} (Err f) (Ok y) → ⊥
+missing f y is = none-some y (ap result_ok is)
+
+of_run : (rest : List Word) (c : Command) → command_behind name.Run rest ≡ Ok c → IsShape (codes "run" ∷ rest) c
+of_run [] c is = absurd (missing _ c is)
+of_run (e ∷ []) c is = absurd (missing _ c is)
 of_run (e ∷ s ∷ options) c is =
-    let m = mapped Run (run_words (e ∷ s ∷ options)) c is in
-    let r = run_from e s options (value_of for_certificate options) m.value (λ le. refl) m.there in
-    subst (IsShape (codes "run" ∷ e ∷ s ∷ options)) (ap Run r.is ∙ m.is) (Runs e s options r.w r.j (value_of for_certificate options) r.given)
+    let m = made command.Run (run_by name.Run e s options) c is in
+    let r = ran name.Run e s options m.value m.there in
+    subst (IsShape (codes "run" ∷ e ∷ s ∷ options)) (ap command.Run r.is ∙ m.is) (Runs e s options r.w r.j r.f r.are)
 
-of_single : (rest : List Word) (c : Command) → option_map Single (single_words rest) ≡ Some c → IsShape (codes "single" ∷ rest) c
-of_single [] c is = absurd (none-some c is)
-of_single (e ∷ []) c is = absurd (none-some c is)
+of_single : (rest : List Word) (c : Command) → command_behind name.Single rest ≡ Ok c → IsShape (codes "single" ∷ rest) c
+of_single [] c is = absurd (missing _ c is)
+of_single (e ∷ []) c is = absurd (missing _ c is)
 of_single (e ∷ s ∷ options) c is =
-    let m = mapped Single (single_words (e ∷ s ∷ options)) c is in
-    let r = single_from e s options m.value m.there in
-    subst (IsShape (codes "single" ∷ e ∷ s ∷ options)) (ap Single r.is ∙ m.is) (RunsBySource e s options r.j r.given)
+    let m = made command.Single (run_by name.Single e s options) c is in
+    let r = alone_run name.Single refl e s options m.value (ran name.Single e s options m.value m.there) refl in
+    subst (IsShape (codes "single" ∷ e ∷ s ∷ options)) (ap command.Single r.is ∙ m.is) (RunsBySource e s options r.j r.are)
 
 -- a command of one file
-of_one : (name : Word) (make : Word → Command) → ((w : Word) → IsShape (name ∷ w ∷ []) (make w))
-    → (rest : List Word) (c : Command) → option_map make (only_word rest) ≡ Some c → IsShape (name ∷ rest) c
-of_one name make shaped [] c is = absurd (none-some c is)
-of_one name make shaped (w ∷ []) c is = subst (IsShape (name ∷ w ∷ [])) (same_Some (make w) c is) (shaped w)
-of_one name make shaped (w ∷ more ∷ rest) c is = absurd (none-some c is)
+of_one : (k : CommandName) (name : Word) (make : Word → Command) → ((w : Word) → IsShape (name ∷ w ∷ []) (make w))
+    → (rest : List Word) (c : Command) → made_of make (only_word k rest) ≡ Ok c → IsShape (name ∷ rest) c
+of_one k name make shaped [] c is = absurd (missing _ c is)
+of_one k name make shaped (w ∷ []) c is = subst (IsShape (name ∷ w ∷ [])) (same_Ok (make w) c is) (shaped w)
+of_one k name make shaped (w ∷ more ∷ rest) c is = absurd (missing _ c is)
 
-of_load : (rest : List Word) (c : Command) → option_map Load (calls_in rest) ≡ Some c → IsShape (codes "load" ∷ rest) c
-of_load [] c is = absurd (none-some c is)
-of_load (w ∷ []) c is =
-    let m = mapped Load (calls_in (w ∷ [])) c is in
-    subst (IsShape (codes "load" ∷ w ∷ [])) m.is (Loads w m.value (count_from MOST_CALLS allowed_calls refl (λ n. refl) w m.value (number_of w) refl m.there))
-of_load (w ∷ more ∷ rest) c is = absurd (none-some c is)
+alone_from : {A : Type 0} (a : A) (k : CommandName) (rest : List Word) (y : A) → alone a (no_more k rest) ≡ Ok y → (rest ≡ []) × (a ≡ y)
+alone_from a k [] y is = (refl, same_Ok a y is)
+alone_from a k (word ∷ rest) y is = absurd (missing _ y is)
 
-of_timed : (rest : List Word) (c : Command) → option_map Timed (timed_words rest) ≡ Some c → IsShape (codes "timed" ∷ rest) c
-of_timed [] c is = absurd (none-some c is)
-of_timed (e ∷ []) c is = absurd (none-some c is)
-of_timed (e ∷ s ∷ []) c is = absurd (none-some c is)
+of_load : (rest : List Word) (c : Command) → command_behind name.Load rest ≡ Ok c → IsShape (codes "load" ∷ rest) c
+of_load [] c is = absurd (missing _ c is)
+of_load (value ∷ rest) c is =
+    let m = made command.Load (load_words (value ∷ rest)) c is in
+    let r = read (ok_or (count_of MOST_CALLS value) (fault.BadNumber name.Load value)) (λ n. alone n (no_more name.Load rest)) m.value m.there in
+    let last = alone_from r.value name.Load rest m.value r.is in
+    let count = count_from MOST_CALLS value r.value (ok_from (count_of MOST_CALLS value) (fault.BadNumber name.Load value) r.value r.there) in
+    subst (IsShape (codes "load" ∷ value ∷ rest)) (ap command.Load last.1 ∙ m.is)
+    (subst (λ ws. IsShape (codes "load" ∷ value ∷ ws) (command.Load r.value)) (sym last.0) (Loads value r.value count))
+
+of_timed : (rest : List Word) (c : Command) → command_behind name.Timed rest ≡ Ok c → IsShape (codes "timed" ∷ rest) c
+of_timed [] c is = absurd (missing _ c is)
+of_timed (e ∷ []) c is = absurd (missing _ c is)
+of_timed (e ∷ s ∷ []) c is = absurd (missing _ c is)
 of_timed (e ∷ s ∷ t ∷ options) c is =
-    let m = mapped Timed (timed_words (e ∷ s ∷ t ∷ options)) c is in
-    let n = mapped (λ (r : RunWords). record { run = r; table = t }) (bounded_run e s options None) m.value m.there in
-    let r = run_from e s options None n.value (no_certificate (value_of for_certificate options)) n.there in
+    let m = made command.Timed (timed_words (e ∷ s ∷ t ∷ options)) c is in
+    let n = made (λ (r : RunWords). record { run = r; table = t }) (run_by name.Timed e s options) m.value m.there in
+    let r = bounded name.Timed refl e s options n.value (ran name.Timed e s options n.value n.there) refl in
     subst (IsShape (codes "timed" ∷ e ∷ s ∷ t ∷ options))
-    (ap (λ (q : RunWords). Timed (record { run = q; table = t })) r.is ∙ ap Timed n.is ∙ m.is)
-    (RunsTimed e s t options r.w r.j r.given)
+    (ap (λ (q : RunWords). command.Timed (record { run = q; table = t })) r.is ∙ ap command.Timed n.is ∙ m.is)
+    (RunsTimed e s t options r.w r.j r.are)
 
--- a change that was read
-record Changed (new : Word) (o : Option ℕ) (run : Option RunWords) (w : ChangeWords) : Type 0 where
-  at : ℕ
-  run_words : RunWords
-  told : o ≡ Some at
-  there : run ≡ Some run_words
-  is : ◌≡◌ {A = ChangeWords} (record { run = run_words; new = new; at = at }) w
-
-changed : (new : Word) (o : Option ℕ) (run : Option RunWords) (w : ChangeWords) → change_at new o run ≡ Some w → Changed new o run w
-changed new None run w is = absurd (none-some w is)
-changed new (Some at) None w is = absurd (none-some w is)
-changed new (Some at) (Some r) w is = record { at = at; run_words = r; told = refl; there = refl; is = same_Some (record { run = r; new = new; at = at }) w is }
-
-of_change : (rest : List Word) (c : Command) → option_map Change (change_words rest) ≡ Some c → IsShape (codes "change" ∷ rest) c
-of_change [] c is = absurd (none-some c is)
-of_change (e ∷ []) c is = absurd (none-some c is)
-of_change (e ∷ s ∷ []) c is = absurd (none-some c is)
-of_change (e ∷ s ∷ n ∷ []) c is = absurd (none-some c is)
+of_change : (rest : List Word) (c : Command) → command_behind name.Change rest ≡ Ok c → IsShape (codes "change" ∷ rest) c
+of_change [] c is = absurd (missing _ c is)
+of_change (e ∷ []) c is = absurd (missing _ c is)
+of_change (e ∷ s ∷ []) c is = absurd (missing _ c is)
+of_change (e ∷ s ∷ n ∷ []) c is = absurd (missing _ c is)
 of_change (e ∷ s ∷ n ∷ k ∷ options) c is =
-    let m = mapped Change (change_words (e ∷ s ∷ n ∷ k ∷ options)) c is in
-    let g = changed n (allowed_jobs (number_of k)) (bounded_run e s options None) m.value m.there in
-    let r = run_from e s options None g.run_words (no_certificate (value_of for_certificate options)) g.there in
+    let m = made command.Change (change_words (e ∷ s ∷ n ∷ k ∷ options)) c is in
+    let a = read (ok_or (count_of MOST_JOBS k) (fault.BadNumber name.Change k))
+    (λ at. made_of (λ (w : RunWords). record { run = w; new = n; at = at }) (run_by name.Change e s options)) m.value m.there in
+    let g = made (λ (w : RunWords). record { run = w; new = n; at = a.value }) (run_by name.Change e s options) m.value a.is in
+    let r = bounded name.Change refl e s options g.value (ran name.Change e s options g.value g.there) refl in
+    let count = count_from MOST_JOBS k a.value (ok_from (count_of MOST_JOBS k) (fault.BadNumber name.Change k) a.value a.there) in
     subst (IsShape (codes "change" ∷ e ∷ s ∷ n ∷ k ∷ options))
-    (ap (λ (q : RunWords). Change (record { run = q; new = n; at = g.at })) r.is ∙ ap Change g.is ∙ m.is)
-    (Changes e s n k g.at options r.w r.j (count_from MOST_JOBS allowed_jobs refl (λ l. refl) k g.at (number_of k) refl g.told) r.given)
+    (ap (λ (q : RunWords). command.Change (record { run = q; new = n; at = a.value })) r.is ∙ ap command.Change g.is ∙ m.is)
+    (Changes e s n k a.value options r.w r.j count r.are)
 
-of_trace : (rest : List Word) (c : Command) → option_map Trace (trace_words rest) ≡ Some c → IsShape (codes "trace" ∷ rest) c
-of_trace [] c is = absurd (none-some c is)
-of_trace (e ∷ []) c is = absurd (none-some c is)
-of_trace (e ∷ s ∷ []) c is = absurd (none-some c is)
+of_trace : (rest : List Word) (c : Command) → command_behind name.Trace rest ≡ Ok c → IsShape (codes "trace" ∷ rest) c
+of_trace [] c is = absurd (missing _ c is)
+of_trace (e ∷ []) c is = absurd (missing _ c is)
+of_trace (e ∷ s ∷ []) c is = absurd (missing _ c is)
 of_trace (e ∷ s ∷ q ∷ options) c is =
-    let m = mapped Trace (trace_words (e ∷ s ∷ q ∷ options)) c is in
-    let n = mapped (λ (r : RunWords). record { run = r; filter = q }) (single_run e s options) m.value m.there in
-    let r = single_from e s options n.value n.there in
+    let m = made command.Trace (trace_words (e ∷ s ∷ q ∷ options)) c is in
+    let n = made (λ (r : RunWords). record { run = r; filter = q }) (run_by name.Trace e s options) m.value m.there in
+    let r = alone_run name.Trace refl e s options n.value (ran name.Trace e s options n.value n.there) refl in
     subst (IsShape (codes "trace" ∷ e ∷ s ∷ q ∷ options))
-    (ap (λ (p : RunWords). Trace (record { run = p; filter = q })) r.is ∙ ap Trace n.is ∙ m.is)
-    (Traces e s q options r.j r.given)
+    (ap (λ (p : RunWords). command.Trace (record { run = p; filter = q })) r.is ∙ ap command.Trace n.is ∙ m.is)
+    (Traces e s q options r.j r.are)
 
--- the command of this name, or another one
-named : (name text : Word) (rest : List Word) (c : Command) (x y : Option Command)
-    → (x ≡ Some c → IsShape (text ∷ rest) c) → (y ≡ Some c → IsShape (name ∷ rest) c)
-    → (if bytes_eq name text then x else y) ≡ Some c → IsShape (name ∷ rest) c
-named name text rest c x y here other is = elim (cases_Bool (bytes_eq name text)) [
-  | inl same ↦ subst (λ n. IsShape (n ∷ rest) c) (sym ((bytes_eq-Decides name text).0 same)) (here (sym (cond-true (bytes_eq name text) x y same) ∙ is))
-  | inr differs ↦ other (sym (cond-false (bytes_eq name text) x y differs) ∙ is)
-]
+-- the word of a command
+abbrev spelled : CommandName → Word
+spelled name.Run = codes "run"
+spelled name.Single = codes "single"
+spelled name.Analyse = codes "analyse"
+spelled name.Certify = codes "certify"
+spelled name.List = codes "list"
+spelled name.Load = codes "load"
+spelled name.Timed = codes "timed"
+spelled name.Change = codes "change"
+spelled name.Trace = codes "trace"
 
-has_shape : (words : List Word) (c : Command) → shape words ≡ Some c → IsShape words c
-has_shape [] c is = absurd (none-some c is)
-has_shape (name ∷ rest) c is =
-    named name (codes "run") rest c _ _ (of_run rest c)
-    (named name (codes "single") rest c _ _ (of_single rest c)
-    (named name (codes "analyse") rest c _ _ (of_one (codes "analyse") Analyse Analyses rest c)
-    (named name (codes "certify") rest c _ _ (of_one (codes "certify") Certify Certifies rest c)
-    (named name (codes "list") rest c _ _ (of_one (codes "list") Listing Lists rest c)
-    (named name (codes "load") rest c _ _ (of_load rest c)
-    (named name (codes "timed") rest c _ _ (of_timed rest c)
-    (named name (codes "change") rest c _ _ (of_change rest c)
-    (named name (codes "trace") rest c _ _ (of_trace rest c) (λ none. absurd (none-some c none)))))))))) is
+names_command : (word : Word) (k : CommandName) → command_named word ≡ Some k → word ≡ spelled k
+names_command word k =
+    chosen spelled word (codes "run") name.Run k _ refl
+    (chosen spelled word (codes "single") name.Single k _ refl
+    (chosen spelled word (codes "analyse") name.Analyse k _ refl
+    (chosen spelled word (codes "certify") name.Certify k _ refl
+    (chosen spelled word (codes "list") name.List k _ refl
+    (chosen spelled word (codes "load") name.Load k _ refl
+    (chosen spelled word (codes "timed") name.Timed k _ refl
+    (chosen spelled word (codes "change") name.Change k _ refl
+    (chosen spelled word (codes "trace") name.Trace k _ refl (λ none. absurd (none-some k none))))))))))
+
+of_command : (k : CommandName) (rest : List Word) (c : Command) → command_behind k rest ≡ Ok c → IsShape (spelled k ∷ rest) c
+of_command name.Run rest c is = of_run rest c is
+of_command name.Single rest c is = of_single rest c is
+of_command name.Analyse rest c is = of_one name.Analyse (codes "analyse") command.Analyse Analyses rest c is
+of_command name.Certify rest c is = of_one name.Certify (codes "certify") command.Certify Certifies rest c is
+of_command name.List rest c is = of_one name.List (codes "list") command.List Lists rest c is
+of_command name.Load rest c is = of_load rest c is
+of_command name.Timed rest c is = of_timed rest c is
+of_command name.Change rest c is = of_change rest c is
+of_command name.Trace rest c is = of_trace rest c is
+
+has_shape : (words : List Word) (c : Command) → command_of words ≡ Ok c → IsShape words c
+has_shape [] c is = absurd (missing _ c is)
+has_shape (word ∷ rest) c is =
+    let r = read (ok_or (command_named word) (fault.UnknownCommand word)) (λ k. command_behind k rest) c is in
+    let names = names_command word r.value (ok_from (command_named word) (fault.UnknownCommand word) r.value r.there) in
+    subst (λ n. IsShape (n ∷ rest) c) (sym names) (of_command r.value rest c r.is)
+
+ok_is : {A : Type 0} (r : Result A WordsFault) (a : A) → result_ok r ≡ Some a → r ≡ Ok a
+ok_is (Ok b) a is = ap (λ q. Ok q) (same_Some b a is)
+ok_is (Err f) a is = absurd (none-some a is)
 
 pub shape_is : (words : List Word) (c : Command) → (shape words ≡ Some c) ↔ IsShape words c
-shape_is words c = (has_shape words c, shape_read)
+shape_is words c = (λ is. has_shape words c (ok_is (command_of words) c is), λ is. ap result_ok (command_read is))
 
 pub one_shape : (words : List Word) (a b : Command) → IsShape words a → IsShape words b → a ≡ b
-one_shape words a b is other = same_Some a b (sym (shape_read is) ∙ shape_read other)
+one_shape words a b is other = same_Ok a b (sym (command_read is) ∙ command_read other)
 
 -- for `search`
-pub read_as : (words : List Word) (read : Option Command) → read ≡ shape words → AreReadAs words read
-read_as words read is c = (λ e. has_shape words c (sym is ∙ e), λ s. is ∙ shape_read s)
+pub read_as : (words : List Word) (r : Result Command WordsFault) → r ≡ command_of words → AreReadAs words r
+read_as words r is c = (λ e. has_shape words c (sym is ∙ e), λ s. is ∙ command_read s)

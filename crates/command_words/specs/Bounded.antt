@@ -1,8 +1,9 @@
 -- The bounds of a run.
-use Rattle.std.specs.Prelude.{ℕ, ◌≤◌}
+use Rattle.std.specs.Prelude.{ℕ, ◌≤◌, IfSome}
 use Rattle.plex_limits.specs.declared.limits.TheConstants.{MOST_JOBS, MOST_WORKERS}
 use Rattle.command_words.specs.declared.command.Bounds.{Bounds}
 use Rattle.command_words.specs.declared.command.RunWords.{RunWords}
+use Rattle.command_words.specs.declared.options.OptionValues.{OptionValues}
 use Rattle.command_words.specs.declared.command.Command.{Command}
 use Rattle.command_words.specs.declared.command.Command.TheVariants.{Run, Single, Analyse, Certify}
 use Rattle.command_words.specs.declared.command.Command.TheVariants.{List as Listing, Load, Timed}
@@ -12,6 +13,11 @@ use Rattle.command_words.specs.declared.command.Command.TheVariants.{Change, Tra
 pub record AreWorkers (n : ℕ) : Type 0 where
   pub some : 1 ≤ n
   pub few : n ≤ MOST_WORKERS
+
+-- what options tell is in range
+pub record IsTold (t : OptionValues) : Type 0 where
+  pub workers : IfSome t.workers AreWorkers
+  pub jobs : IfSome t.jobs (λ n. n ≤ MOST_JOBS)
 
 -- so many workers, and at most 10,000,000 jobs
 pub record AreWithin (b : Bounds) : Type 0 where

@@ -4,6 +4,7 @@
 -- behind these options in any order, each at most once. What has none of these shapes is no
 -- command.
 use Rattle.std.specs.Prelude.{◌≡◌, ◌≤◌, ◌↔◌, ℕ, List, [], ◌∷◌, Option, Some, None, codes}
+use Rattle.std.specs.Prelude.{Result, Ok}
 use Rattle.std.specs.Option.{unwrap_or}
 use Rattle.plex_limits.specs.declared.limits.TheConstants.{MOST_JOBS, MOST_WORKERS}
 use Rattle.plex_num.specs.Number.{number_of}
@@ -14,6 +15,7 @@ use Rattle.command_words.specs.declared.command.Command.TheVariants.{Run, Single
 use Rattle.command_words.specs.declared.command.Command.TheVariants.{List as Listing, Load, Timed}
 use Rattle.command_words.specs.declared.command.Command.TheVariants.{Change, Trace}
 use Rattle.command_words.specs.declared.command.RunWords.{RunWords}
+use Rattle.command_words.specs.declared.fault.WordsFault.{WordsFault}
 use Rattle.command_words.specs.Words.{Word}
 
 -- this word is a number from 1 up to the most
@@ -84,5 +86,5 @@ pub data IsShape : List Word → Command → Type 0 where
       (Trace (record { run = run_of e s 1 (or_usual_jobs j) None; filter = q }))
 
 -- the words were read as a command exactly where they are that one
-abbrev pub AreReadAs : List Word → Option Command → Type 0
-AreReadAs words read = (c : Command) → (read ≡ Some c) ↔ IsShape words c
+abbrev pub AreReadAs : List Word → Result Command WordsFault → Type 0
+AreReadAs words read = (c : Command) → (read ≡ Ok c) ↔ IsShape words c

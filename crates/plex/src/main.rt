@@ -42,7 +42,7 @@ fn run<R: Threads + Wait + Sync + Files + Print + Eprint + Clock + Env>(
         progress.clear();
     }
     if end.status == Status::Usage {
-        let _ = say_wrong(rt, words, are_text);
+        let _ = say_wrong(rt, alloc, words, are_text);
     }
     let known = Known {
         program: PROGRAM,

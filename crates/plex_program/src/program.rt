@@ -87,8 +87,8 @@ fn answered<R: Threads + Wait + Sync, S: Shelf, G: Gate + Sync>(
     ensures made { Makes (shape words.now ≡ None) usage_answer result }
 {
     match read_command(host.alloc, words) {
-        Ok(Some(command)) => perform(host, shelf, &command),
-        Ok(None) => usage_answer(host.alloc),
+        Ok(Ok(command)) => perform(host, shelf, &command),
+        Ok(Err(_)) => usage_answer(host.alloc),
         Err(_) => Err(Stop::Memory),
     }
 }
