@@ -72,16 +72,6 @@ pub complete_absent : (Is : Files → Answer → Type 0) (held : Option Files) (
 complete_absent Is None shelf shelf' sink sink' is = tt
 complete_absent Is (Some files) shelf shelf' sink sink' is = λ no_read no_write. inl (record { answer = not_held; is = is; status = refl })
 
-pub read_failed : (Is : Files → Answer → Type 0) (held : Option Files) (faults faults' : ℕ)
-    (before after : Option (List ℕ)) → Rose faults faults' → after ≡ before
-    → ReadCause Is held faults faults' before after
-read_failed Is held faults faults' before after rose silent = record { cause = inl rose; silent = silent }
-
-pub read_absent : (Is : Files → Answer → Type 0) (held : Option Files) (faults faults' : ℕ)
-    (before after : Option (List ℕ)) → IsSomeAnd held (λ files. Is files not_held) → after ≡ before
-    → ReadCause Is held faults faults' before after
-read_absent Is held faults faults' before after is silent = record { cause = inr is; silent = silent }
-
 pub complete_memory : (Is : Files → Answer → Type 0) (held : Option Files) (shelf shelf' sink sink' : ℕ)
     → IfSome held (λ files. IsComplete (Is files) shelf shelf' sink sink' status.Memory)
 complete_memory Is None shelf shelf' sink sink' = tt
@@ -198,8 +188,6 @@ makes_usage Unshaped a (Err stop.Failed) none usage reads = tt
 makes_usage Unshaped a (Err stop.Memory) none usage reads = tt
 
 pub ruleset answering = (answers_command, answers_usage, makes_command, makes_usage)
-
-pub ruleset ending = (ends_held, complete_written, complete_failed, complete_absent, complete_memory, read_failed, read_absent)
 
 -- ## Devices that never fail
 --

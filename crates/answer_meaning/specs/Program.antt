@@ -5,6 +5,7 @@ use Rattle.plex_io.specs.Files.{Files}
 use Rattle.plex_io.specs.Written.{appended, WroteLess, IsFull}
 use Rattle.answer_meaning.specs.Answer.{answer_of}
 use Rattle.answer_meaning.specs.declared.answer.Answer.{Answer}
+use Rattle.answer_meaning.specs.declared.answer.ProgramEnd.{ProgramEnd}
 use Rattle.answer_meaning.specs.declared.answer.Stop.{Stop}
 use Rattle.answer_meaning.specs.declared.answer.Stop.TheVariants as stop
 use Rattle.answer_meaning.specs.declared.fault.FileFault.{FileFault}
@@ -106,6 +107,47 @@ Makes Unshaped usage_line (Err (stop.Told a f)) = IsMade Unshaped usage_line a (
 Makes Unshaped usage_line (Err stop.NotHeld) = Unit {0}
 Makes Unshaped usage_line (Err stop.Failed) = Unit {0}
 Makes Unshaped usage_line (Err stop.Memory) = Unit {0}
+
+-- an answer may be written, and with it this fault is told
+pub record IsWritable (a : Answer) (f : Option FileFault) : Type 0 where
+  pub plain : WritesText a.status
+  pub fits : FitsFault f a
+
+-- what is to be written, if anything is, may be
+abbrev pub MayEnd : Result Answer Stop → Type 0
+MayEnd (Ok a) = IsWritable a None
+MayEnd (Err (stop.Told a f)) = IsWritable a (Some f)
+MayEnd (Err stop.NotHeld) = Unit {0}
+MayEnd (Err stop.Failed) = Unit {0}
+MayEnd (Err stop.Memory) = Unit {0}
+
+-- the program ends with this answer, or with the failure of a write
+pub record EndsWritten (a : Answer) (size : Option ℕ) (before after : Option (List ℕ))
+    (faults faults' : ℕ) (end : ProgramEnd) : Type 0 where
+  pub ends : ProcessEnds a before after end.status
+  pub write : end.status ≡ status.Write → WriteCause size after faults faults'
+  pub plain : (end.status ≡ status.Write) ⊎ (end.status ≡ a.status)
+  pub fault : TellsFault before after end.status end.fault
+
+-- the program ends with this status, and writes nothing
+pub record EndsSilent (s : Status) (before after : Option (List ℕ)) (end : ProgramEnd) : Type
+    0 where
+  pub is : end ≡ record { status = s; fault = None }
+  pub silent : after ≡ before
+
+-- the end of the program with an answer, or by what stopped the work for it
+abbrev pub EndsBecause : Result Answer Stop → (size : Option ℕ) → (before after : Option (List ℕ))
+    → (faults faults' : ℕ) → ProgramEnd → Type 0
+EndsBecause (Ok a) size before after faults faults' end =
+    EndsWritten a size before after faults faults' end
+EndsBecause (Err (stop.Told a f)) size before after faults faults' end =
+    EndsWritten a size before after faults faults' end
+EndsBecause (Err stop.NotHeld) size before after faults faults' end =
+    EndsSilent status.Read before after end
+EndsBecause (Err stop.Failed) size before after faults faults' end =
+    EndsSilent status.Read before after end
+EndsBecause (Err stop.Memory) size before after faults faults' end =
+    EndsSilent status.Memory before after end
 
 -- the status of a run
 abbrev pub IsEnding : Status → Type 0

@@ -12,7 +12,7 @@ ghost use Rattle.conflicts_program.specs.Words.{asked_by, is_own, usage_answer, 
 use access_summary::summaries_of;
 use additions_text::add_additions;
 use answer_meaning::{Answer, ProgramEnd, Stop};
-use command_answers::write_answer;
+use command_answers::end_with;
 use command_words::Status;
 use conflicts_meaning::EntryPair;
 use conflicts_text::conflicts;
@@ -32,7 +32,7 @@ use text_parts::Text;
 /// is full (a proper prefix of the text has then been written), and `Memory` (out of memory). After
 /// `Read` and `Memory` nothing was written. `fault` is the reported fault exactly where the status
 /// is that of a refusal.
-#[tactic(auto, using(answer_meaning::proofs::Endings::ending))]
+#[tactic(auto, using(answer_meaning::proofs::Promises::made_may_end))]
 pub fn plex_conflicts<S: Shelf, K: Sink>(
     alloc: Global,
     words: &[Word],
@@ -58,22 +58,7 @@ pub fn plex_conflicts<S: Shelf, K: Sink>(
     ensures fault { TellsFault (K.written sink.old) (K.written sink.new) result.status
         result.fault }
 {
-    match answered(alloc, words, shelf) {
-        Ok(answer) => write_answer(sink, &answer, None),
-        Err(Stop::Told { answer, fault }) => write_answer(sink, &answer, Some(fault)),
-        Err(Stop::NotHeld) => ProgramEnd {
-            status: Status::Read,
-            fault: None,
-        },
-        Err(Stop::Failed) => ProgramEnd {
-            status: Status::Read,
-            fault: None,
-        },
-        Err(Stop::Memory) => ProgramEnd {
-            status: Status::Memory,
-            fault: None,
-        },
-    }
+    end_with(sink, answered(alloc, words, shelf))
 }
 
 /// The answer to the arguments.

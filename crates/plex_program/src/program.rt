@@ -9,7 +9,7 @@ ghost use Rattle.command_words.specs.Words.{shape};
 
 use crate::perform::perform;
 use answer_meaning::{Answer, ProgramEnd, Stop};
-use command_answers::{usage_line, write_answer};
+use command_answers::{end_with, usage_line};
 use command_words::{Status, read_command};
 use parallel_dispatch::Host;
 use plex_io::{Gate, Shelf, Sink, Word};
@@ -30,7 +30,7 @@ use text_parts::Text;
 ///
 /// With more than one worker, jobs may run in parallel on threads of `rt`, each of which calls
 /// `gate` before and after its job. The answer equals that of the single run.
-#[tactic(auto, using(answer_meaning::proofs::Endings::ending))]
+#[tactic(auto, using(answer_meaning::proofs::Promises::made_may_end))]
 pub fn plex<R: Threads + Wait + Sync, S: Shelf, K: Sink, G: Gate + Sync>(
     rt: &R,
     alloc: Global,
@@ -57,22 +57,7 @@ pub fn plex<R: Threads + Wait + Sync, S: Shelf, K: Sink, G: Gate + Sync>(
         result.fault }
 {
     let host = Host { rt, alloc, gate };
-    match answered(&host, words, shelf) {
-        Ok(answer) => write_answer(sink, &answer, None),
-        Err(Stop::Told { answer, fault }) => write_answer(sink, &answer, Some(fault)),
-        Err(Stop::NotHeld) => ProgramEnd {
-            status: Status::Read,
-            fault: None,
-        },
-        Err(Stop::Failed) => ProgramEnd {
-            status: Status::Read,
-            fault: None,
-        },
-        Err(Stop::Memory) => ProgramEnd {
-            status: Status::Memory,
-            fault: None,
-        },
-    }
+    end_with(sink, answered(&host, words, shelf))
 }
 
 /// The answer to the arguments.

@@ -1,11 +1,45 @@
-use Rattle.answer_meaning.specs.Answer.{IsAnswer}
-use Rattle.answer_meaning.proofs.Endings.{complete_written, ends_held}
+use Rattle.std.specs.Prelude.{◌≡◌, None}
+use Rattle.answer_meaning.specs.Answer.{IsAnswer, usage_answer}
+use Rattle.command_words.specs.Words.{shape}
+use Rattle.answer_meaning.proofs.Promises.{promised}
 use Rattle.plex_program.proofs.program.plex.Goals as goal
 
-pub returns-in-Ok-clause-answers : goal.returns-in-Ok-clause-answers
-returns-in-Ok-clause-answers g c = ends_held (IsAnswer c.args.words.now) _ c.in-Ok.answer _ _
-    c.write_answer.result.status c.in-Ok.ensures.answers.ok c.write_answer.ensures.ends
+pub returns-clause-answers : goal.returns-clause-answers
+returns-clause-answers g c =
+    (promised (IsAnswer c.args.words.now) (shape c.args.words.now ≡ None) usage_answer _ _ _ _ _ _ _ _ c.answered.result
+    c.end_with.result c.answered.ensures.answers c.answered.ensures.made c.end_with.ensures).answers
 
-pub returns-in-Ok-clause-complete : goal.returns-in-Ok-clause-complete
-returns-in-Ok-clause-complete g c = complete_written (IsAnswer c.args.words.now) _ c.in-Ok.answer _ _ _ _ _ _
-    c.write_answer.result.status c.in-Ok.ensures.answers.ok c.write_answer.ensures.write c.write_answer.ensures.plain
+pub returns-clause-unshaped : goal.returns-clause-unshaped
+returns-clause-unshaped g c =
+    (promised (IsAnswer c.args.words.now) (shape c.args.words.now ≡ None) usage_answer _ _ _ _ _ _ _ _ c.answered.result
+    c.end_with.result c.answered.ensures.answers c.answered.ensures.made c.end_with.ensures).unshaped
+
+pub returns-clause-usage : goal.returns-clause-usage
+returns-clause-usage g c =
+    (promised (IsAnswer c.args.words.now) (shape c.args.words.now ≡ None) usage_answer _ _ _ _ _ _ _ _ c.answered.result
+    c.end_with.result c.answered.ensures.answers c.answered.ensures.made c.end_with.ensures).usage
+
+pub returns-clause-read : goal.returns-clause-read
+returns-clause-read g c =
+    (promised (IsAnswer c.args.words.now) (shape c.args.words.now ≡ None) usage_answer _ _ _ _ _ _ _ _ c.answered.result
+    c.end_with.result c.answered.ensures.answers c.answered.ensures.made c.end_with.ensures).read
+
+pub returns-clause-write : goal.returns-clause-write
+returns-clause-write g c =
+    (promised (IsAnswer c.args.words.now) (shape c.args.words.now ≡ None) usage_answer _ _ _ _ _ _ _ _ c.answered.result
+    c.end_with.result c.answered.ensures.answers c.answered.ensures.made c.end_with.ensures).write
+
+pub returns-clause-memory : goal.returns-clause-memory
+returns-clause-memory g c =
+    (promised (IsAnswer c.args.words.now) (shape c.args.words.now ≡ None) usage_answer _ _ _ _ _ _ _ _ c.answered.result
+    c.end_with.result c.answered.ensures.answers c.answered.ensures.made c.end_with.ensures).memory
+
+pub returns-clause-complete : goal.returns-clause-complete
+returns-clause-complete g c =
+    (promised (IsAnswer c.args.words.now) (shape c.args.words.now ≡ None) usage_answer _ _ _ _ _ _ _ _ c.answered.result
+    c.end_with.result c.answered.ensures.answers c.answered.ensures.made c.end_with.ensures).complete
+
+pub returns-clause-fault : goal.returns-clause-fault
+returns-clause-fault g c =
+    (promised (IsAnswer c.args.words.now) (shape c.args.words.now ≡ None) usage_answer _ _ _ _ _ _ _ _ c.answered.result
+    c.end_with.result c.answered.ensures.answers c.answered.ensures.made c.end_with.ensures).fault
