@@ -1,5 +1,5 @@
 """plex-step on a terminal: Tab completes words, lines that were typed come back, and Ctrl-C gives
-the prompt again, at the prompt and while a command runs.
+the prompt again, at the prompt and while a command runs, however often it is struck.
 """
 from __future__ import annotations
 
@@ -36,6 +36,8 @@ EXIT;
 END BLOCK;
 """
 LONG = 5_000_000  # jobs, through which no machine goes before Ctrl-C
+STRUCK, APART, STEP = 400, 40, 0.0001  # how often Ctrl-C is struck, and up to how far apart
+PATIENCE = 2  # seconds after which a line is typed again
 
 Word = Union[str, pathlib.Path]
 
@@ -62,10 +64,13 @@ class Terminal:
             os.waitpid(self.process, 0)
         os.close(self.end)
 
+    def is_told(self, seconds: float) -> bool:
+        """Whether something is there to read, within the time."""
+        return bool(select.select([self.end], [], [], seconds)[0])
+
     def read(self) -> bool:
         """Reads what is there within the time; tells whether the session goes on."""
-        ready, _, _ = select.select([self.end], [], [], SOON)
-        assert ready, f"nothing comes behind {self.wrote[-200:]!r}"
+        assert self.is_told(SOON), f"nothing comes behind {self.wrote[-200:]!r}"
         try:
             some = os.read(self.end, 1 << 16)
         except OSError:  # the session has closed its side
@@ -96,6 +101,25 @@ class Terminal:
         while self.seconds() < begun + WHILE:
             assert time.monotonic() < until, "the session does not work"
             time.sleep(0.01)
+
+    def interrupt_often(self) -> None:
+        """Strikes Ctrl-C many times, nearer and farther from one another."""
+        for number in range(STRUCK):
+            self.type(INTERRUPT)
+            time.sleep(number % APART * STEP)
+            while self.is_told(0):
+                assert self.read(), f"the session has ended: {self.wrote[-300:]!r}"
+
+    def answers(self, line: bytes, told: bytes) -> None:
+        """Types a line until it is answered: one that is typed while an interrupt is not yet heeded
+        is forgotten.
+        """
+        self.wrote, until = b"", time.monotonic() + SOON
+        while told not in self.wrote:
+            assert time.monotonic() < until, f"{line!r} is not answered: {self.wrote[-300:]!r}"
+            self.type(line)
+            while told not in self.wrote and self.is_told(PATIENCE):
+                assert self.read(), f"the session has ended: {self.wrote[-300:]!r}"
 
     def ended(self) -> int:
         """The status with which the session ends."""
@@ -150,22 +174,41 @@ def test_interrupt_at_the_prompt(asking: Terminal) -> None:
     assert asking.ended() == 0
 
 
-def test_interrupt_of_a_command(plex: pathlib.Path, folder: pathlib.Path) -> None:
-    """Ctrl-C stops a command that takes long, and the run stands where the command began."""
+@pytest.fixture
+def endless(plex: pathlib.Path, folder: pathlib.Path) -> Iterator[Terminal]:
+    """A session at the first prompt of a run that takes long."""
     (folder / "E").write_text(ENDLESS)
     (folder / "S").write_text("AFTER 0 TICK COUNTER NONE\n")
-    words: list[Word] = [folder / "E", folder / "S", "--limit", str(LONG)]
-    with Terminal(words) as terminal:
+    with Terminal([folder / "E", folder / "S", "--limit", str(LONG)]) as terminal:
         terminal.until(PROMPT)
-        terminal.type(b"s\n")
-        terminal.until(PROMPT)
-        terminal.type(b"where\n")
-        place = terminal.until(PROMPT).strip()
-        terminal.type(b"goto %d\n" % (LONG - 1))
-        terminal.work()
-        terminal.type(INTERRUPT)
-        assert b"stopped" in terminal.until(PROMPT)
-        terminal.type(b"where\n")
-        assert terminal.until(PROMPT).strip() == place
-        terminal.type(b"quit\n")
-        assert terminal.ended() == 0
+        yield terminal
+
+
+def test_interrupt_of_a_command(endless: Terminal) -> None:
+    """Ctrl-C stops a command that takes long, and the run stands where the command began."""
+    endless.type(b"s\n")
+    endless.until(PROMPT)
+    endless.type(b"where\n")
+    place = endless.until(PROMPT).strip()
+    endless.type(b"goto %d\n" % (LONG - 1))
+    endless.work()
+    endless.type(INTERRUPT)
+    assert b"stopped" in endless.until(PROMPT)
+    endless.type(b"where\n")
+    assert endless.until(PROMPT).strip() == place
+    endless.type(b"quit\n")
+    assert endless.ended() == 0
+
+
+@pytest.mark.parametrize("line", [b"", b"goto %d\n" % (LONG - 1)], ids=["prompt", "command"])
+def test_interrupts_one_after_the_other(endless: Terminal, line: bytes) -> None:
+    """Ctrl-C that is struck again and again, while the prompt is written and while a command is
+    stopped, does not end the session.
+    """
+    if line:
+        endless.type(line)
+        endless.work()
+    endless.interrupt_often()
+    endless.answers(b"where\n", b"TICK")
+    endless.type(b"quit\n")
+    assert endless.ended() == 0

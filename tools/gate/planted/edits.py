@@ -550,6 +550,18 @@ OF_STEP = [
         "            session.stepper.go(session.stepper.place)",
         "            pass",
     ),
+    terminal(
+        "interrupts_are_not_kept",
+        "Ctrl-C is heeded between commands too, where it ends the session",
+        "if self.is_heeded and self.is_kept:",
+        "if self.is_kept:",
+    ),
+    terminal(
+        "interrupt_beside_an_alarm",
+        "Ctrl-C ends the session where another signal comes with it",
+        "            if not is_interrupt(raised):\n",
+        "            if not isinstance(raised, KeyboardInterrupt):\n",
+    ),
     Edit(
         "goto_of_few_jobs",
         "plex-step",

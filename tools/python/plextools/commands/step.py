@@ -28,6 +28,7 @@ from plextools.text.statements import Text
 PROMPT = "(plex) "
 WRONG_COMMAND = 1
 WAKE = 0.2  # seconds after which an interrupt is heeded at the latest while a line is edited
+NOTHING = contextlib.nullcontext()
 
 
 class Given(argparse.Namespace):
@@ -105,36 +106,85 @@ def complete(session: Session, word: str, place: int) -> Optional[str]:
     return found[place] if place < len(found) else None
 
 
-@contextlib.contextmanager
-def waking() -> Iterator[None]:
-    """Ends each wait for a key after a moment, by an alarm that does nothing else.
-
-    An interrupt that comes just before readline begins to wait would be heeded with the next key.
+class Interrupts:
+    """Ctrl-C on a terminal: raised while a line is edited or a command runs, once in each of these,
+    and kept until the next one where it comes between them. Elsewhere it is raised at once.
     """
-    before = signal.signal(signal.SIGALRM, lambda *_: None)
-    signal.setitimer(signal.ITIMER_REAL, WAKE, WAKE)
-    try:
-        yield
-    finally:
-        signal.setitimer(signal.ITIMER_REAL, 0)
-        signal.signal(signal.SIGALRM, before)
+
+    def __init__(self, is_terminal: bool) -> None:
+        self.is_heeded = self.is_kept = False
+        if is_terminal and signal.getsignal(signal.SIGINT) is signal.default_int_handler:
+            signal.signal(signal.SIGINT, self.come)
+
+    def come(self, *_: object) -> None:
+        self.is_kept = True
+        self.heed()
+
+    def heed(self, *_: object) -> None:
+        """Raises what is kept, where it is heeded."""
+        if self.is_heeded and self.is_kept:
+            self.is_heeded = self.is_kept = False
+            raise KeyboardInterrupt
+
+    @contextlib.contextmanager
+    def heeded(self) -> Iterator[None]:
+        self.is_heeded = True
+        try:
+            self.heed()
+            yield
+        finally:
+            self.is_heeded = False
+
+    @contextlib.contextmanager
+    def kept(self) -> Iterator[None]:
+        """Keeps it within `heeded`, for what readline calls: an exception would be lost there."""
+        before, self.is_heeded = self.is_heeded, False
+        try:
+            yield
+        finally:
+            self.is_heeded = before
+
+    @contextlib.contextmanager
+    def waking(self) -> Iterator[None]:
+        """Ends each wait for a key after a moment, by an alarm.
+
+        An interrupt that comes just before readline begins to wait would be heeded with the next
+        key.
+        """
+        before = signal.signal(signal.SIGALRM, self.heed)
+        signal.setitimer(signal.ITIMER_REAL, WAKE, WAKE)
+        try:
+            yield
+        finally:
+            signal.setitimer(signal.ITIMER_REAL, 0)
+            signal.signal(signal.SIGALRM, before)
 
 
-def typed(session: Session) -> Iterator[str]:
-    """The lines of the standard input; on a terminal they can be edited, where that is built in."""
-    is_terminal = sys.stdin.isatty()
+def edits_lines(session: Session, interrupts: Interrupts) -> None:
+    """Has the lines of a terminal edited, where that is built in."""
+    with contextlib.suppress(ImportError):
+        import readline
+
+        def completed(word: str, place: int) -> Optional[str]:
+            with interrupts.kept():
+                return complete(session, word, place)
+
+        readline.set_completer(completed)
+        readline.set_completer_delims(" ()")
+        readline.parse_and_bind("tab: complete")
+
+
+def typed(session: Session, interrupts: Interrupts, is_terminal: bool) -> Iterator[str]:
+    """The lines of the standard input."""
     if is_terminal:
-        with contextlib.suppress(ImportError):
-            import readline
-
-            readline.set_completer(lambda word, place: complete(session, word, place))
-            readline.set_completer_delims(" ()")
-            readline.parse_and_bind("tab: complete")
+        edits_lines(session, interrupts)
     while True:
         try:
-            with waking() if is_terminal else contextlib.nullcontext():
+            with interrupts.heeded(), interrupts.waking() if is_terminal else NOTHING:
                 line = input(PROMPT if is_terminal else "")
-        except KeyboardInterrupt:
+        except (KeyboardInterrupt, SystemError) as raised:
+            if not is_interrupt(raised):
+                raise
             print()
             continue
         except EOFError:
@@ -142,18 +192,28 @@ def typed(session: Session) -> Iterator[str]:
         yield line
 
 
+def is_interrupt(raised: BaseException) -> bool:
+    """Whether it is an interrupt, or the complaint of `input` that another signal came with it:
+    `input` has the handler of that one called although an exception is raised already.
+    """
+    return any(isinstance(one, KeyboardInterrupt) for one in (raised, raised.__cause__))
+
+
 def write(lines: Iterable[str]) -> None:
     for line in lines:
         print(line)
 
 
-def ask(session: Session, lines: Iterable[str], is_echoed: bool) -> Iterator[str]:
+def ask(
+    session: Session, interrupts: Interrupts, lines: Iterable[str], is_echoed: bool
+) -> Iterator[str]:
     """Does commands one after the other, and gives what is wrong with them."""
     for line in lines:
         if is_echoed:
             print(f"{PROMPT}{tables.printed(line)}".rstrip())
         try:
-            write(session.do(line))
+            with interrupts.heeded():
+                write(session.do(line))
         except Refused as refused:
             print(refused)
             yield str(refused)
@@ -164,11 +224,14 @@ def ask(session: Session, lines: Iterable[str], is_echoed: bool) -> Iterator[str
 
 def talk(given: Given, session: Session) -> int:
     """Takes the commands of the words, or those of the standard input."""
+    is_terminal = sys.stdin.isatty() and not given.scripts
+    interrupts = Interrupts(is_terminal)
     write(session.begun())
     if given.scripts:
         lines = [line for source in given.scripts for line in source.commands()]
-        return WRONG_COMMAND if next(ask(session, lines, True), None) is not None else 0
-    for _ in ask(session, typed(session), not sys.stdin.isatty()):
+        wrong = next(ask(session, interrupts, lines, True), None)
+        return WRONG_COMMAND if wrong is not None else 0
+    for _ in ask(session, interrupts, typed(session, interrupts, is_terminal), not is_terminal):
         pass
     return 0
 
