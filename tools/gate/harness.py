@@ -16,6 +16,7 @@ not set; the gate sets it to 0. `seed()` is that of cases made by chance: each c
 one. `version()` is the one that the sources have.
 """
 import atexit
+import contextlib
 import os
 import pathlib
 import re
@@ -24,6 +25,7 @@ import shutil
 import signal
 import subprocess
 import sys
+import threading
 from collections.abc import Iterator, Mapping, Sequence
 from typing import NamedTuple, Optional, Union
 
@@ -39,6 +41,8 @@ PLEX, MERGER, CONFLICTS = (
 )
 VERSION = ROOT / "crates" / "process_ends" / "src" / "complaint.rt"
 VERSION_TOLD = re.compile(r'^const VERSION: &str = "(\d[0-9A-Za-z.+~]*)";$', re.M)
+# Seconds of the processor that a call may take, and those of the clock within which anything ends,
+# however slow the machine is and whatever else it does.
 LONGEST, WHILE = 60, 600
 SHOWN = 120
 LATE, MOST_LATE = [], 2
@@ -226,6 +230,18 @@ def limit_processor(child: "subprocess.Popen[bytes]", seconds: int) -> None:
         child.poll()
 
 
+@contextlib.contextmanager
+def ended_late(process: "subprocess.Popen[bytes]") -> Iterator[None]:
+    """Ends a process that goes on for a long while, so that what reads from it ends too."""
+    timer = threading.Timer(WHILE, process.kill)
+    timer.daemon = True
+    timer.start()
+    try:
+        yield
+    finally:
+        timer.cancel()
+
+
 def late() -> None:
     """Notes that a call did not end in time."""
     LATE.append(True)
@@ -286,7 +302,7 @@ def seed() -> str:
     words = ["git", "-c", f"safe.directory={ROOT}", "-C", str(ROOT), "log", "-1", "--format=%ct"]
     try:
         told = subprocess.run(
-            words, stdout=subprocess.PIPE, stderr=subprocess.DEVNULL, timeout=60, check=False
+            words, stdout=subprocess.PIPE, stderr=subprocess.DEVNULL, timeout=WHILE, check=False
         ).stdout
     except (OSError, subprocess.TimeoutExpired):
         told = b""
@@ -313,7 +329,7 @@ def has_modules(modules: Sequence[str], needed_for: str) -> bool:
     )
     words = [PYTHON, "-I", "-c", find, *modules]
     try:
-        done = subprocess.run(words, stdin=subprocess.DEVNULL, timeout=60, check=False)
+        done = subprocess.run(words, stdin=subprocess.DEVNULL, timeout=WHILE, check=False)
     except (OSError, subprocess.TimeoutExpired):
         done = None
     if done is not None and done.returncode == 0:

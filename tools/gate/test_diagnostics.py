@@ -12,7 +12,6 @@ import pty
 import re
 import subprocess
 import sys
-import threading
 from typing import Any, Dict, List, Sequence, Set, Tuple
 
 import jsonschema  # type: ignore[import]
@@ -36,7 +35,7 @@ SCHEMA = json.loads((harness.CASES / "sarif" / "schema.json").read_text())
 CHECK = harness.ROOT / "tools" / "bin" / "plex-check"
 NAMES = ("exchange.plex", "signals.txt", "table.txt", "filter.txt")
 COLOUR = re.compile(r"\x1b\[[0-9;]*m")
-LEAST, MOST_ROUNDS, LONGEST = 49, 12, 60
+LEAST, MOST_ROUNDS = 49, 12
 ALL_FAULTS = harness.ROOT / "examples" / "guide" / "all_faults"
 
 # The tables of other checks: texts with faults of all kinds.
@@ -298,10 +297,8 @@ def on_terminal(words: Sequence[str], folder: pathlib.Path, **variables: str) ->
     environment.update({"TERM": "xterm", "COLUMNS": "80", **variables})
     with subprocess.Popen(
         [sys.executable, str(CHECK), *words], cwd=folder, env=environment, stdout=theirs
-    ) as process:
+    ) as process, harness.ended_late(process):
         os.close(theirs)
-        timer = threading.Timer(LONGEST, process.kill)
-        timer.start()
         told = b""
         while True:
             try:
@@ -311,8 +308,7 @@ def on_terminal(words: Sequence[str], folder: pathlib.Path, **variables: str) ->
             if not some:
                 break
             told += some
-        process.wait(LONGEST)
-        timer.cancel()
+        process.wait(harness.WHILE)
     os.close(ours)
     return told.decode().replace("\r\n", "\n")
 

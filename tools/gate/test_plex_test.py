@@ -18,7 +18,10 @@ TOOL = harness.ROOT / "tools" / "bin" / "plex-test"
 EXAMPLES = harness.ROOT / "examples"
 METER, FAULTS, REFUSED = "meter", "release_and_restart", "guide/first_refusal"
 LEAST_EXAMPLES = 85
-SOON = 120  # seconds within which the command ends, on a machine that does much else
+# Seconds within which the command ends, on a machine that does much else, and a process that was
+# killed; those that a program takes which does not end; and those between two looks.
+SOON, GONE, LONG, LOOK = harness.WHILE, 300, 2 * harness.WHILE, 0.1
+LIMITS = 1, 10, 100  # of --timeout, of which the first counts within which a program has begun
 STUB = f"""#!/bin/sh
 if [ "$1" = --version ]; then
     echo "plex {VERSION}" >&2
@@ -416,28 +419,45 @@ def test_junit_replaces_no_other_file(told: Caller) -> None:
 
 # --timeout, and the end of programs
 
+# A process that leaves the session and keeps the outputs, until there is a file.
+GOES_AWAY = f"setsid sh -c 'for i in $(seq {LONG}); do [ -e ../over ] && exit; sleep 1; done' &"
+
 
 def test_a_run_that_is_late_is_ended_with_all_that_it_started(told: Caller) -> None:
+    """What has left its session is not waited for."""
     told.case("case")
-    told.program("setsid sleep 20 & sleep 600 & echo $! >../child; sleep 600")
-    got = told("case", "--timeout", "1", "--update")
+    told.program(f"{GOES_AWAY} sleep {LONG} & echo $! >../child; sleep {LONG}")
+    child = told.folder / "child"
+    try:
+        for limit in LIMITS:
+            got = told("case", "--timeout", str(limit), "--update")
+            if has_text(child):
+                break
+    finally:
+        (told.folder / "over").touch()
     assert (got.status, got.wrote) == (
         1,
-        "FAIL: case: plex did not end within 1 s\n0 passed, 1 failed\n",
+        f"FAIL: case: plex did not end within {limit} s\n0 passed, 1 failed\n",
     )
-    assert has_ended(int((told.folder / "child").read_text()))
+    assert has_ended(int(child.read_text()))
+
+
+def has_text(path: pathlib.Path) -> bool:
+    """Whether something stands in a file."""
+    return path.exists() and path.read_text() != ""
 
 
 def has_ended(process: int) -> bool:
     """Whether a process goes away soon."""
-    for _ in range(100):
+    end = time.monotonic() + GONE
+    while time.monotonic() < end:
         try:
             state = pathlib.Path(f"/proc/{process}/stat").read_text().rpartition(")")[2].split()[0]
-        except FileNotFoundError:
+        except (FileNotFoundError, ProcessLookupError):
             return True
-        if state == "Z":
+        if state in "ZX":
             return True
-        time.sleep(0.1)
+        time.sleep(LOOK)
     return False
 
 
@@ -468,15 +488,16 @@ def test_many_run_at_once(told: Caller) -> None:
         'touch started; while [ "$(ls ../*/started | wc -l)" -lt 4 ]; do sleep 0.1; done; '
         "cat report.txt"
     )
-    assert told("cases", "--jobs", "4", "--timeout", "60").wrote == "4 passed, 0 failed\n"
+    got = told("cases", "--jobs", "4", "--timeout", str(GONE))
+    assert got.wrote == "4 passed, 0 failed\n"
 
 
 def wait_for_text(path: pathlib.Path) -> None:
     """Waits until something stands in a file."""
     end = time.monotonic() + SOON
-    while not path.exists() or not path.read_text():
+    while not has_text(path):
         assert time.monotonic() < end, f"nothing stands in {path.name}"
-        time.sleep(0.1)
+        time.sleep(LOOK)
 
 
 @pytest.mark.parametrize("number", [signal.SIGINT, signal.SIGTERM])
@@ -485,7 +506,7 @@ def test_interrupted(told: Caller, number: int) -> None:
     told.case("cases/a")
     told.case("cases/b")
     told.program(
-        "case $PWD in */a) cat report.txt;; *) echo $$ >../../child; exec sleep 600;; esac"
+        f"case $PWD in */a) cat report.txt;; *) echo $$ >../../child; exec sleep {LONG};; esac"
     )
     with subprocess.Popen(
         [sys.executable, TOOL, "-v", "cases", "--junit", "out.xml"],
@@ -493,7 +514,7 @@ def test_interrupted(told: Caller, number: int) -> None:
         env=told.environment,
         stdout=subprocess.PIPE,
         stderr=subprocess.PIPE,
-    ) as process:
+    ) as process, harness.ended_late(process):
         assert process.stdout and process.stdout.readline() == b"PASS: cases/a\n"
         wait_for_text(told.folder / "child")
         process.send_signal(number)
