@@ -28,7 +28,8 @@ from gate.lsp_example import (
     start_of,
 )
 from gate.makers import put_faults
-from plextools.text.tokens import KEYWORDS
+from plextools.text.tokens import KEYWORDS, Text
+from plextools.text.ways import KnownWays, odd_ways
 
 ASKED = (
     "documentSymbol foldingRange semanticTokens/full codeAction hover definition references "
@@ -116,6 +117,38 @@ def test_edits(client: Client, other: Client, seed: str, number: int) -> None:
         other.close_all()
         different = [name for name in wanted if found[name] != wanted[name]]
         check(*(f"{name} after {changes}: {found[name]}, {wanted[name]}" for name in different))
+
+
+# what is odd in blocks that stay the same
+
+DIRECT = ("GONE OUTSIDE", "GONE SINGLE DIRECT")
+ODD = (
+    "  S = 3;",
+    "  IF S = S THEN\n    S = 4;\n  FI;",
+    "  EXIT;\n  S = 5;",
+    "! a comment",
+    "",
+)
+STATEMENTS = (18, 19, 20, 23, 25, 26, 36, 37, 38, 40)  # lines of the example, from 0
+
+
+@pytest.mark.by_chance(40)
+def test_known_ways(seed: str, number: int) -> None:
+    """What is odd in blocks that did not change is told as in a text that is new."""
+    chance, known = random.Random(f"{seed} ways {number}"), KnownWays()
+    added, told = {}, 0
+    for _ in range(10):
+        added[chance.choice(STATEMENTS)] = chance.choice(ODD)
+        added[DESK] = chance.choice(ODD[3:]) + "\n" * chance.randrange(2)
+        lines = [f"{added[at]}\n{line}" if at in added else line for at, line in enumerate(LINES)]
+        text = "\n".join(lines)
+        if chance.random() < 0.3:
+            text = text.replace(*DIRECT)
+        clean = Text(text.encode(), 1).clean
+        found = odd_ways(clean, known=known)
+        assert found == odd_ways(clean), text
+        told += len(found)
+    assert told
 
 
 # long texts

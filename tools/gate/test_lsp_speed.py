@@ -2,24 +2,29 @@
 
 The server waits for 0.05 seconds without a key, and then tells the faults near the edit. What it
 takes of the processor until these are told is bounded, so that they are there within 0.2 seconds
-where a processor is free; time of a clock would tell how much else the machine does.
+where a processor is free; time of a clock would tell how much else the machine does. The bound
+holds too where the edit comes while the server looks at the whole text behind an earlier one, and
+where that earlier one was in another block.
 """
 from __future__ import annotations
 
 import itertools
 import os
 import re
-from typing import Iterator
+import time
+from typing import Callable, Iterator
 
 import pytest
 
-from gate.lsp_client import Client, Json
+from gate.lsp_client import LONGEST, Client, Json
 from gate.lsp_example import need_module
 from plextools.lsp.checks import PAUSE
 
 BLOCKS, ENTRIES, TURNS = "ABCDEFGHIJ", 20, 24
 MOST_SECONDS = 0.2 - PAUSE
 TRIES = 3  # the least of them counts
+INTO_WHOLE = 0.1  # so long a look at the whole text has gone on
+MOST_OF_ALL = 0.6  # of the time for all blocks, where one of ten has changed
 URI = "file:///nowhere/of/all/long.plex"
 TICKS = os.sysconf("SC_CLK_TCK")
 
@@ -80,9 +85,9 @@ def seconds(client: Client) -> float:
     return (int(numbers[11]) + int(numbers[12])) / TICKS
 
 
-def change(old: str, new: str) -> Json:
-    """A change of the last place where a text stands."""
-    at = TEXT.rindex(old)
+def change(old: str, new: str, find: Callable[[str], int] = TEXT.rindex) -> Json:
+    """A change of the last place where a text stands, or of another one."""
+    at = find(old)
     line, start = TEXT.count("\n", 0, at), at - TEXT.rfind("\n", 0, at) - 1
     span = {"line": line, "character": start}, {"line": line, "character": start + len(old)}
     return {"range": {"start": span[0], "end": span[1]}, "text": new}
@@ -124,8 +129,52 @@ def test_processor_time(client: Client, name: str) -> None:
     assert min(taken) <= MOST_SECONDS, taken
 
 
-def undone(old: str, new: str) -> Json:
+def undone(old: str, new: str, find: Callable[[str], int] = TEXT.rindex) -> Json:
     """What takes a change back."""
-    made = change(old, old)
+    made = change(old, old, find)
     made["range"]["end"]["character"] += len(new) - len(old)
     return made
+
+
+def begun(client: Client) -> float:
+    """Waits until the look at the whole text has begun; what the server has taken by then."""
+    start, end = seconds(client), time.monotonic() + LONGEST
+    while seconds(client) < start + INTO_WHOLE:
+        assert time.monotonic() < end, "the whole text is not looked at"
+        time.sleep(0.01)
+    return seconds(client)
+
+
+def test_whole_given_up(client: Client) -> None:
+    """The look at the whole text is given up at an edit. Where that is far from the edit before,
+    the faults near both are told.
+    """
+    old, new, word = EDITS["statement"]
+    far_old, far_new = (text.replace("19005", "4005") for text in (old, new))
+    taken = []
+    for _ in range(TRIES):
+        assert told_of(client, change(old, new)) == {word}
+        for made, faults in ((change(far_old, far_new, TEXT.index), 2), (undone(old, new), 1)):
+            start, version = begun(client), next(VERSIONS)
+            client.change(URI, version, [made])
+            told = client.diagnostics(URI, version)
+            taken.append(seconds(client) - start)
+            assert [one["code"] for one in told] == [word] * faults
+        assert not told_of(client, undone(far_old, far_new, TEXT.index))
+    assert sorted(taken)[TRIES - 1] <= MOST_SECONDS, taken
+
+
+def whole(client: Client, made: Json, several: int) -> float:
+    """What the server takes until the whole text has been looked at behind a change."""
+    start, version = seconds(client), next(VERSIONS)
+    client.change(URI, version, [made])
+    assert client.diagnostics(URI, version, several) == []
+    return seconds(client) - start
+
+
+def test_other_blocks_kept(client: Client) -> None:
+    """The ways through blocks that did not change are not looked at again."""
+    everything = [whole(client, {"text": text}, 1) for text in (TEXT.replace("MOD", "+"), TEXT)]
+    edits = [("T * 19005;", "T * 9;"), ("T * 19006;", "T * 8;")]
+    one_block = [whole(client, change(*edit), 2) for edit in edits]
+    assert min(one_block) <= MOST_OF_ALL * min(everything), (one_block, everything)

@@ -11,6 +11,7 @@ COMMANDS = "tools/python/plextools/commands"
 RECORDS, LONG_FORM = f"{SHOW}/records.py", f"{SHOW}/long_form.py"
 TEXT = "tools/python/plextools/text"
 EXPLANATIONS = f"{TEXT}/explanations.py"
+CHECKS, WAYS = "tools/python/plextools/lsp/checks.py", f"{TEXT}/ways.py"
 CHECK, WHY, TEST = (f"{COMMANDS}/{name}.py" for name in ("check", "why", "test"))
 CHART, CHART_SVG, CHART_WORDS = (
     f"{SHOW}/{name}.py" for name in ("chart", "chart_svg", "chart_words")
@@ -407,6 +408,56 @@ OF_LSP = [
         "tools/python/plextools/lsp/quick.py",
         "    if window is None:\n",
         "    if window is None or window:\n",
+    ),
+    Edit(
+        "far_edits_wait",
+        "plex-lsp",
+        "an edit far from the one before is told when the whole text has been looked at",
+        "lsp_speed",
+        CHECKS,
+        "(self.whole.get(document.uri), last)",
+        "(self.whole.get(document.uri),)",
+        ("-k", "whole_given_up"),
+    ),
+    Edit(
+        "whole_to_its_end",
+        "plex-lsp",
+        "the look at the whole text is not given up at an edit",
+        "lsp_speed",
+        CHECKS,
+        "            if not self.workspace.is_current(document):\n                raise Stale\n",
+        "            pass\n",
+        ("-k", "whole_given_up"),
+    ),
+    Edit(
+        "all_blocks_again",
+        "plex-lsp",
+        "the ways through all blocks are looked at behind each edit",
+        "lsp_speed",
+        WAYS,
+        "        if found is None:\n",
+        "        if found is None or block:\n",
+        ("-k", "other_blocks_kept"),
+    ),
+    Edit(
+        "lines_of_before",
+        "plex-lsp",
+        "what is odd in a block names the lines at which it stood before",
+        "lsp_edits",
+        WAYS,
+        "(known.above == above or not known.told)",
+        "known.above >= 0",
+        ("-k", "known_ways"),
+    ),
+    Edit(
+        "kinds_of_before",
+        "plex-lsp",
+        "what is odd in a block is told by the kinds of signals of before",
+        "lsp_edits",
+        WAYS,
+        "if one in self.of and kinds == self.kinds}",
+        "if one in self.of}",
+        ("-k", "known_ways"),
     ),
 ]
 OF_VSIX = [

@@ -1,12 +1,14 @@
 """Checks documents in a thread of its own, a moment after the last key, and publishes what is told.
 
 A check of a text that has been changed meanwhile is given up. In a long text the faults near the
-edit are told first; then the whole text is looked at.
+edit are told first; then the whole text is looked at. The garbage collector runs behind checks, not
+in them, so that it delays no answer.
 """
+import contextlib
 import gc
 import threading
 import time
-from typing import Any, Callable, Dict, List, Optional
+from typing import Any, Callable, Dict, Iterator, List, Optional
 
 from plextools.lsp.diagnostics import published
 from plextools.lsp.documents import Document, Kind
@@ -31,13 +33,26 @@ class Stale(Exception):
     """A document has been changed while it was checked."""
 
 
+@contextlib.contextmanager
+def without_collections() -> Iterator[None]:
+    """The garbage collector does not run until the end of a check, and then where it is short."""
+    gc.disable()
+    try:
+        yield
+    finally:
+        gc.enable()
+        gc.collect(0)
+
+
 class Checks:
     """The thread that checks."""
 
     def __init__(self, workspace: Workspace, publish: Callable[[Dict[str, Any]], None]) -> None:
         self.workspace, self.publish = workspace, publish
         self.due: Dict[str, float] = {}
-        self.whole: Dict[str, Told] = {}  # what the last check of the whole text told
+        # what the last check of the whole text told, and what was told last
+        self.whole: Dict[str, Told] = {}
+        self.last: Dict[str, Told] = {}
         self.is_over = False
         self.changed = threading.Condition()
         self.thread = threading.Thread(target=self.work, daemon=True)
@@ -53,6 +68,7 @@ class Checks:
         with self.changed:
             self.due.pop(uri, None)
             self.whole.pop(uri, None)
+            self.last.pop(uri, None)
 
     def end(self) -> None:
         with self.changed:
@@ -67,10 +83,8 @@ class Checks:
             document = self.workspace.documents.get(uri)
             if document is None:
                 continue
-            try:
+            with contextlib.suppress(Stale), without_collections():
                 self.check(document)
-            except Stale:
-                continue
 
     def next(self) -> Optional[str]:
         """Waits for the next document that is due; None at the end."""
@@ -93,16 +107,19 @@ class Checks:
 
     def check(self, document: Document) -> None:
         watch = self.watch_of(document)
-        if document.kind is Kind.EXCHANGE and len(document.data) > LARGEST_AT_ONCE:
+        is_long = document.kind is Kind.EXCHANGE and len(document.data) > LARGEST_AT_ONCE
+        if is_long:
             self.tell_near_edit(document)
             self.wait(document, watch)
         judgement = self.workspace.judgement(document, watch)
         if document.kind is Kind.EXCHANGE:
-            self.whole[document.uri] = Told(document.text, judgement.findings)
+            told = Told(document.text, judgement.findings)
+            self.whole[document.uri] = self.last[document.uri] = told
             for dependent in self.workspace.dependents(document):
                 self.ask(dependent.uri, 0)
         self.tell(judgement)
-        gc.collect(0)
+        if is_long:
+            gc.collect()
 
     def wait(self, document: Document, watch: Callable[[], None]) -> None:
         """Waits a while for further keys, if faults near an edit were told before."""
@@ -114,10 +131,21 @@ class Checks:
         watch()
 
     def tell_near_edit(self, document: Document) -> None:
-        old = self.whole.get(document.uri)
-        found = near_edit(old, document.text, MOST) if old else None
-        if found is not None:
-            self.tell(Judgement(document, by_cause(found)))
+        """Tells what is known near an edit: all edits since the whole text was looked at, or the
+        last one alone where they are far from each other. Of a text of which nothing has been told
+        yet, the faults near its first edit are the first that are told.
+        """
+        nothing = Told(document.text, [])
+        last = self.last.setdefault(document.uri, nothing)
+        if last is nothing:
+            return
+        for old in (self.whole.get(document.uri), last):
+            found = near_edit(old, document.text, MOST) if old else None
+            if found is not None:
+                told = by_cause(found)
+                self.last[document.uri] = Told(document.text, told)
+                self.tell(Judgement(document, told))
+                return
 
     def tell(self, judgement: Judgement) -> None:
         is_alone = judgement.document.kind is not Kind.EXCHANGE and judgement.exchange is None

@@ -9,14 +9,12 @@ from plextools.text import signal_files
 from plextools.text.faults import Fault
 from plextools.text.finding import Finding, Severity
 from plextools.text.findings import NO_ADVICE, by_cause, of_exchange, of_lines
-from plextools.text.grammar import Node
-from plextools.text.reader import Frame
 from plextools.text.retelling import retold
 from plextools.text.signal_files import LineFile
 from plextools.text.tokens import Text, Told
 from plextools.text.tree import Watch
 from plextools.text.warnings import Oddities
-from plextools.text.ways import odd_ways
+from plextools.text.ways import KnownWays, odd_ways
 
 MOST = 100  # faults of each word that are told
 LARGEST_RETOLD = 2**16  # bytes of a text whose faults are told by their causes
@@ -39,27 +37,33 @@ class Judgement(NamedTuple):
 
 
 class Watched(Oddities):
-    """A checker that asks at each statement whether it is still wanted."""
+    """A checker that asks at each piece of the text whether it is still wanted."""
 
-    def __init__(self, source: Text, watch: Watch) -> None:
+    def __init__(self, source: Text, watch: Watch, ways: Optional[KnownWays]) -> None:
         super().__init__(source)
-        self.watch = watch
+        self.watch, self.ways = watch, ways
 
-    def found_statement(self, node: Node, shift: int, frame: Frame) -> None:
+    def known_piece(self, clean: str, at: int, end: int) -> None:
         self.watch()
-        super().found_statement(node, shift, frame)
+        super().known_piece(clean, at, end)
 
-    def ways_of(self, data: bytes) -> List[Told]:
-        return odd_ways(data, self.watch)
+    def new_piece(self, at: int, end: int, key: Optional[str] = None) -> None:
+        self.watch()
+        super().new_piece(at, end, key)
+
+    def ways_of(self, clean: str) -> List[Told]:
+        return odd_ways(clean, self.watch, self.ways)
 
 
-def of_text(document: Document, watch: Watch) -> Judgement:
-    """What is told of an exchange text. `watch` raises what ends the check."""
+def of_text(document: Document, watch: Watch, ways: Optional[KnownWays] = None) -> Judgement:
+    """What is told of an exchange text. `watch` raises what ends the check, and `ways` has what is
+    known of blocks that have not changed.
+    """
     if len(document.data) > MOST_BYTES:
         sentence = f"the text has more than {MOST_BYTES:,} bytes: cut comments and blanks"
         told = Finding(0, None, "TOOLARGE", Severity.ERROR, sentence, NO_ADVICE)
         return Judgement(document, [told])
-    checker = Watched(Text(document.data, MOST), watch)
+    checker = Watched(Text(document.data, MOST), watch, ways)
     faults: Sequence[Fault] = checker.check()
     found = of_exchange(0, checker, faults, checker.oddities(), True)
     if len(document.data) <= LARGEST_RETOLD:

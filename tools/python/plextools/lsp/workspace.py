@@ -7,6 +7,7 @@ from plextools.lsp.index import Index, Known
 from plextools.lsp.judging import Judgement, exchange_path, of_line_file, of_text
 from plextools.limits import MOST_BYTES
 from plextools.text.tree import Watch, nothing
+from plextools.text.ways import KnownWays
 
 
 class Workspace:
@@ -20,6 +21,7 @@ class Workspace:
         self.judging, self.indexing = threading.RLock(), threading.RLock()
         self.judged: Dict[str, Judgement] = {}
         self.indexed: Dict[str, "Indexed"] = {}
+        self.ways: Dict[str, KnownWays] = {}  # what the ways through their blocks told last
 
     def is_current(self, document: Document) -> bool:
         return self.documents.get(document.uri) is document
@@ -33,6 +35,7 @@ class Workspace:
             self.documents.pop(uri, None)
         self.judged.pop(uri, None)
         self.indexed.pop(uri, None)
+        self.ways.pop(uri, None)
 
     # exchange texts
 
@@ -84,11 +87,15 @@ class Workspace:
                 if known.exchange is (exchange.document if exchange else None):
                     return known
             if document.kind is Kind.EXCHANGE:
-                found = of_text(document, watch)
+                found = of_text(document, watch, self.ways_of(document))
             else:
                 found = of_line_file(document, exchange)
             self.judged[document.uri] = found
             return found
+
+    def ways_of(self, document: Document) -> KnownWays:
+        """What is known of the blocks of an exchange text, for who holds `judging`."""
+        return self.ways.setdefault(document.uri, KnownWays())
 
     def index(self, document: Document) -> Index:
         """The names of an exchange text; what stayed the same is not read again."""

@@ -124,13 +124,21 @@ def written(words: Sequence[str]) -> str:
 
 
 class Text:
-    """The statements of an exchange text that plex accepts."""
+    """The statements of an exchange text that plex accepts, or of blocks of one, whose signals are
+    then those of `elsewhere`.
+    """
 
-    def __init__(self, name: str, content: bytes, watch: Watch = nothing) -> None:
+    def __init__(
+        self,
+        name: str,
+        content: bytes,
+        watch: Watch = nothing,
+        elsewhere: Optional[Dict[str, Signal]] = None,
+    ) -> None:
         self.name = name
         signals, blocks = tree(Reader, content, watch)
         self.blocks = [Block(node) for node in blocks]
-        self.signals: Dict[str, Signal] = {}
+        self.signals: Dict[str, Signal] = {} if elsewhere is None else elsewhere
         self.names: List[str] = []
         self.declared: Dict[str, Node] = {}
         self.number_signals(signals)

@@ -149,12 +149,12 @@ class Oddities(Checker):
     def look_at_ways(self) -> None:
         """What is odd in the ways through a text that breaks no rule and is not very large."""
         if not self.found and self.source.size <= MOST_LOOKED_AT:
-            for place, word, sentence in self.ways_of(self.source.text.encode("latin-1")):
+            for place, word, sentence in self.ways_of(self.source.clean):
                 self.warn(place, word, sentence)
 
-    def ways_of(self, data: bytes) -> List[Told]:
+    def ways_of(self, clean: str) -> List[Told]:
         """The warnings of the ways through a text."""
-        return odd_ways(data)
+        return odd_ways(clean)
 
     def odd_left_out(self) -> Dict[str, int]:
         return {

@@ -1,15 +1,18 @@
 """What is odd in the ways through an exchange text that breaks no rule: what no way reaches or
 leaves, and what comes of constants there.
 
-`odd_ways(data)` gives the warnings of a text in bytes. Each is of one block alone: what other
-blocks do with a signal is not looked at.
+`odd_ways(clean)` gives the warnings of a text without comments. Each is of one block alone, by the
+text of the block and the kinds of the signals: what other blocks do is not looked at. So the
+warnings of a block that has not changed can be kept, in `KnownWays`.
 """
+import re
 from typing import Callable, Dict, Iterator, List, NamedTuple, Optional, Sequence, Set, Tuple
 
 from plextools.limits import NUMBERS
+from plextools.text.finding import Span
 from plextools.text.grammar import Expression, Node
 from plextools.text.reader import ENDS
-from plextools.text.statements import Text, alone, factors_of, written
+from plextools.text.statements import Signal, Text, alone, factors_of, written
 from plextools.text.tokens import Told
 from plextools.text.tree import Watch, nothing
 
@@ -17,6 +20,7 @@ ALL = (0, NUMBERS - 1)
 DIVIDES = ("/", "MOD")
 ALWAYS, NEVER = "always true", "never true"
 MOST_STEPS = 1_000_000  # of all ways on which a record is looked for
+BLOCK = re.compile(r"(?<![A-Z0-9])(END[ \t\r\n]+)?BLOCK(?![A-Z0-9])")
 Range = Tuple[int, int]
 
 # Of two ranges: whether a relation holds for all their numbers.
@@ -42,14 +46,62 @@ Known = Dict[str, Highest]
 Leads = Dict[int, List[int]]  # from points to points
 
 
-def odd_ways(data: bytes, watch: Watch = nothing) -> List[Told]:
+class OfBlock(NamedTuple):
+    """The warnings of a block, at places from its beginning, and how many lines are above it."""
+
+    above: int
+    told: List[Told]
+
+
+class KnownWays:
+    """The warnings of the blocks of the text that was looked at last, by the texts of the blocks.
+    A look that was ended early leaves those of the blocks that it came to.
+    """
+
+    def __init__(self) -> None:
+        self.kinds: Dict[str, str] = {}
+        self.of: Dict[str, OfBlock] = {}
+
+    def keep(self, kinds: Dict[str, str], blocks: Sequence[str]) -> None:
+        """Keeps what holds in a text of these signals and these blocks."""
+        self.of = {one: self.of[one] for one in blocks if one in self.of and kinds == self.kinds}
+        self.kinds = kinds
+
+    def found(self, block: str, above: int) -> Optional[List[Told]]:
+        """The warnings of a block, which may name lines; None where they are not known."""
+        known = self.of.get(block)
+        return known.told if known and (known.above == above or not known.told) else None
+
+
+def odd_ways(clean: str, watch: Watch = nothing, known: Optional[KnownWays] = None) -> List[Told]:
     """The warnings of a text that breaks no rule. `watch` raises what ends the search."""
-    text = Text("", data, watch)
+    spans = list(blocks_in(clean))
+    head = clean[: spans[0].start] if spans else clean
+    signals = Text("", head.encode("latin-1"), watch).signals
+    known, blocks = known or KnownWays(), [clean[span.start : span.end] for span in spans]
+    known.keep({name: signal.kind for name, signal in signals.items()}, blocks)
     told: List[Told] = []
-    for place in range(len(text.blocks)):
+    above = head.count("\n")
+    for span, block in zip(spans, blocks):
         watch()
-        told += Ways(text, place).odd()
+        found = known.found(block, above)
+        if found is None:
+            found = odd_of_block(block, above, signals, watch)
+            known.of[block] = OfBlock(above, found)
+        told += [one._replace(place=one.place + span.start) for one in found]
+        above += block.count("\n")
     return sorted(told)
+
+
+def blocks_in(clean: str) -> Iterator[Span]:
+    """The blocks of a text that breaks no rule; each goes on up to the next one."""
+    starts = [found.start() for found in BLOCK.finditer(clean) if not found[1]]
+    return map(Span, starts, [*starts[1:], len(clean)])
+
+
+def odd_of_block(block: str, above: int, signals: Dict[str, Signal], watch: Watch) -> List[Told]:
+    """The warnings of a block, at places from its beginning."""
+    return Ways(Text("", block.encode("latin-1"), watch, signals), above, watch).odd()
 
 
 def words_of(node: Node) -> List[str]:
@@ -100,27 +152,29 @@ def all_in(items: Sequence[Node]) -> Iterator[Node]:
 
 
 class Ways:
-    """Looks at the program of one block."""
+    """Looks at the program of the one block of a text, above which so many lines stand."""
 
-    def __init__(self, text: Text, number: int) -> None:
-        self.text, self.block = text, text.blocks[number]
-        self.points = [node for node in text.points if node.block == number]
-        self.first = self.points[0].point
+    def __init__(self, text: Text, above: int, watch: Watch) -> None:
+        self.text, self.block, self.points = text, text.blocks[0], text.points
+        self.above, self.watch = above, watch
         self.found: List[Told] = []
         self.steps = MOST_STEPS
 
     def odd(self) -> List[Told]:
         """All that is odd in the block."""
         for node in self.points:
+            self.watch()
             self.look_at_numbers(node)
             self.look_at_conditions(node)
         self.look_at_list([*self.block.node.items])
         self.look_at_records(self.block.node.items, {})
-        leads = {node.point: self.leads(node) for node in self.points}
+        leads: Leads = {}
         comes_from: Leads = {}
-        for point, nexts in leads.items():
-            for following in nexts:
-                comes_from.setdefault(following, []).append(point)
+        for node in self.points:
+            self.watch()
+            leads[node.point] = self.leads(node)
+            for following in leads[node.point]:
+                comes_from.setdefault(following, []).append(node.point)
         self.look_at_loops(leads, comes_from)
         self.look_at_reading(leads, comes_from)
         self.look_at_seizing(leads)
@@ -130,7 +184,7 @@ class Ways:
         self.found.append(Told(place, word, sentence))
 
     def line(self, node: Node) -> int:
-        return node.first.line
+        return node.first.line + self.above
 
     # where statements lead in their block
 
@@ -246,6 +300,7 @@ class Ways:
         ended: Optional[Node] = None
         label: Optional[Node] = None
         for item in items:
+            self.watch()
             if item.kind in ("label", "ENTER"):
                 label, ended = item if item.kind == "label" else None, None
                 before = before if label else None
@@ -278,6 +333,7 @@ class Ways:
     def look_at_records(self, items: Sequence[Node], known: Known) -> None:
         """Records that are not there, by temporaries that have a constant, or count up to one."""
         for item in items:
+            self.watch()
             if item.kind == "label":
                 known.clear()
                 continue
@@ -338,6 +394,7 @@ class Ways:
         left = [point for point, nexts in leads.items() if not nexts]
         ends = set(left)
         while left:
+            self.watch()
             for point in comes_from.get(left.pop(), ()):
                 if point not in ends:
                     ends.add(point)
@@ -373,15 +430,17 @@ class Ways:
 
     def look_at_reading(self, leads: Leads, comes_from: Leads) -> None:
         """Values that are given to temporaries and never read."""
-        reads = {node.point: self.bits(self.reads(node)) for node in self.points}
-        writes = {
-            node.point: self.bits(is_written(node))
-            for node in self.points
-            if node.kind in ("set", "ENTER", "RETRIEVE")
-        }
+        reads: Dict[int, int] = {}
+        writes: Dict[int, int] = {}
+        for node in self.points:
+            self.watch()
+            reads[node.point] = self.bits(self.reads(node))
+            if node.kind in ("set", "ENTER", "RETRIEVE"):
+                writes[node.point] = self.bits(is_written(node))
         before, behind = dict(reads), dict.fromkeys(reads, 0)
         left = list(reads)
         while left:
+            self.watch()
             point = left.pop()
             for earlier in comes_from.get(point, ()):
                 behind[earlier] |= before[point]
@@ -418,8 +477,9 @@ class Ways:
         seen: Set[int] = set()
         while left and self.steps:
             self.steps -= 1
+            self.watch()
             point = left.pop()
-            one = self.points[point - self.first]
+            one = self.points[point]
             if point in seen or self.keeps(one, name):
                 continue
             seen.add(point)
