@@ -131,6 +131,12 @@ fn passed(accesses: &[Access], bound: Access, place: usize) -> usize
     requires there { place ≤ length accesses.now }
     ensures { AreSo (λ (a : AccessType). access_order a bound ≡ Less) accesses.now place result }
 {
+    let Some(next) = access_at(accesses, place) else {
+        return place;
+    };
+    if next >= bound {
+        return place;
+    }
     let count = count_below(accesses, bound);
     if count <= place {
         return place;
@@ -177,6 +183,9 @@ pub fn next_near(ones: &[Access], others: &[Access], place: usize) -> usize
         return passed(ones, behind(one), place);
     }
     let writes = apart_from(ones, one, place, others, true);
+    if writes <= place {
+        return place;
+    }
     if passes_reads(one) {
         return writes;
     }
