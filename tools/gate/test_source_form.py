@@ -40,7 +40,6 @@ MANY_PARAMETERS = {
     "flow_table/src/giving.rt push_flow": 8,
     "flow_table/src/giving.rt push_given": 8,
     "interleave_core/src/interleaving.rt run_events": 9,
-    "plex_print/src/plain.rt for_first": 8,
     "register_machine/src/advance.rt go_on": 8,
     "register_machine/src/by_form.rt by_form": 9,
     "source_interpreter/src/records.rt go_to_first": 8,

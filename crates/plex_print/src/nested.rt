@@ -8,8 +8,8 @@ ghost use Rattle.plex_print.specs.Writing.{each_of, maybe_of};
 use crate::condition::cond;
 use crate::expression::expr;
 use crate::plain::{
-    assign, exit, for_first, free, if_goto, retrieve, return_of, seize, send, set_field, to_label,
-    transfer,
+    Search, assign, exit, for_first, free, if_goto, retrieve, return_of, seize, send, set_field,
+    to_label, transfer,
 };
 use crate::word::{end, name, number, word};
 use plex_ast::{Boxed, Cond, Expr, Named, Stmt, StmtKind, When};
@@ -83,9 +83,11 @@ fn kind(text: &mut Seq<u8>, kind: &StmtKind, room: usize, deep: usize) -> Result
             text,
             pointer.get(),
             file.get(),
-            field.get(),
-            rel,
-            value.get(),
+            &Search {
+                field: field.get(),
+                relation: rel,
+                value: value.get(),
+            },
             label.get(),
             room,
         ),

@@ -66,20 +66,26 @@ pub fn if_goto(text: &mut Seq<u8>, test: &Cond, label: &Named, room: usize) -> R
     to_label(text, label)
 }
 
+/// What a record is searched for by: a field of it stands in this relation to a value.
+#[derive(Clone, Copy)]
+pub struct Search<'a> {
+    pub field: &'a Named,
+    pub relation: &'a Rel,
+    pub value: &'a Expr,
+}
+
 /// `FOR FIRST name IN name WHERE name rel expr GOTO name ;`
 #[tactic(auto, unfolding(crate::specs::Printed::for_first_text))]
 pub fn for_first(
     text: &mut Seq<u8>,
     pointer: &Named,
     file: &Named,
-    field: &Named,
-    relation: &Rel,
-    value: &Expr,
+    search: &Search<'_>,
     label: &Named,
     room: usize,
 ) -> Result<(), Memory>
-    ensures { IfOk result (λ _. text.new ≡ for_first_text room pointer.now file.now field.now
-        relation.now value.now label.now text.old) }
+    ensures { IfOk result (λ _. text.new ≡ for_first_text room pointer.now file.now
+        search.now.field.now search.now.relation.now search.now.value.now label.now text.old) }
 {
     word(text, b"FOR")?;
     word(text, b"FIRST")?;
@@ -87,9 +93,9 @@ pub fn for_first(
     word(text, b"IN")?;
     name(text, file)?;
     word(text, b"WHERE")?;
-    name(text, field)?;
-    rel(text, relation)?;
-    expr(text, value, room)?;
+    name(text, search.field)?;
+    rel(text, search.relation)?;
+    expr(text, search.value, room)?;
     to_label(text, label)
 }
 
