@@ -13,11 +13,12 @@ import threading
 import time
 from typing import Any, Mapping, Optional, Sequence
 
+from gate import harness
 from gate.checking import TOOLS
 
 PYTHON = "/usr/bin/python3"  # Debian's, to which the module of the server belongs
 SERVER = TOOLS / "bin" / "plex-lsp"
-LONGEST = 120.0
+LONGEST = float(harness.WHILE)
 Json = dict[str, Any]
 
 

@@ -61,7 +61,7 @@ WHOLE = {"start": {"line": 0, "character": 0}, "end": {"line": 10**6, "character
 def need_module() -> None:
     """The test is left out where the module of the server is missing."""
     done = subprocess.run(
-        [PYTHON, "-c", "import pylsp_jsonrpc"], capture_output=True, timeout=harness.LONGEST
+        [PYTHON, "-c", "import pylsp_jsonrpc"], capture_output=True, timeout=harness.WHILE
     )
     if done.returncode:
         leave_out("there is no python3-pylsp-jsonrpc")

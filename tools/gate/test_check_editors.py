@@ -15,10 +15,11 @@ from typing import Callable
 
 import pytest
 
+from gate import harness
 from gate.checking import EXAMPLES, ROOT, TOOLS, check, check_enough, need_command
 
 EDITORS, EXAMPLE = ROOT / "editors", EXAMPLES / "guide" / "all_faults"
-LONGEST, LEAST = 120, 10
+LONGEST, LEAST = harness.WHILE, 10
 LINE = re.compile(r"(.+?):(\d+):(\d+): ")
 VIM = """
 set runtimepath^={editors}/vim

@@ -24,7 +24,7 @@ ALWAYS = {"-h", "--help", "--version"}  # a manual page need not have them
 WITH_OPTIONS = [command for command in COMMANDS if command.options]
 SHELLS = {"zsh": ["_plex"], "fish": ["*.fish"], "bash": ["*.bash"]}
 OF_BASH = ("plex", "plex-merge", "plex-conflicts", "plex-tools")
-LONGEST = 60
+LONGEST = harness.WHILE
 
 
 def name_of(command: Command) -> str:

@@ -21,7 +21,7 @@ from gate.checking import EXAMPLES, ROOT, check, check_enough, need_command
 from plextools.limits import MOST_BYTES
 
 EDITORS = ROOT / "editors"
-LONGEST, LEAST_LINES = 120, 15
+LONGEST, LEAST_LINES = harness.WHILE, 15
 LARGE, PARTS = "large.plex", ("file", "line", "code", "message")
 
 

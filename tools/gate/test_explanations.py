@@ -16,7 +16,7 @@ from plextools.text.explanations import EXCHANGE, MADE, Explanation, Files
 KNOWN = explanations.explanations()
 LARGEST = 2**24
 WIDEST, LONGEST = 80, 34
-SOON = 60  # seconds within which the shell ends
+SOON = harness.WHILE  # seconds within which the shell ends
 # The words that plex-check tells alone.
 OWN = {*warnings.WARNINGS, *change.CHANGES, *change.NOTES}
 CERTIFICATE = ("BADTEXT", "WRONGEXCHANGE", "STRANGE", "MISSING")

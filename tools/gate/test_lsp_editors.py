@@ -28,7 +28,8 @@ EMACS = """
   (package-initialize)
   (require 'eglot)
   (load "{editors}/emacs/plex-mode.el")
-  (setq plex-lsp-command '("{python}" "-B" "{server}") eglot-sync-connect 200)
+  (setq plex-lsp-command '("{python}" "-B" "{server}") eglot-sync-connect 200
+        eglot-connect-timeout 200 jrpc-default-request-timeout 200)
   (find-file "wrong.plex")
   (unless (eq major-mode 'plex-mode) (error "the mode is %s" major-mode))
   (apply #'eglot (eglot--guess-contact))

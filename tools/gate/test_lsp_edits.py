@@ -311,14 +311,14 @@ def test_end() -> None:
     client = Client()
     assert client.process.stdin
     client.process.stdin.close()
-    assert client.process.wait(60) == 1
+    assert client.process.wait(harness.WHILE) == 1
 
 
 def test_module_is_missing() -> None:
     """One sentence tells where the module of the messages comes from."""
     words = [PYTHON, "-S", "-B", str(SERVER)]
     done = subprocess.run(
-        words, capture_output=True, text=True, stdin=subprocess.DEVNULL, timeout=harness.LONGEST
+        words, capture_output=True, text=True, stdin=subprocess.DEVNULL, timeout=harness.WHILE
     )
     assert done.returncode == 2 and done.stdout == ""
     assert "apt-get install python3-pylsp-jsonrpc" in done.stderr
@@ -327,6 +327,6 @@ def test_module_is_missing() -> None:
 
 def test_wrong_words() -> None:
     words = [PYTHON, "-B", str(SERVER), "x"]
-    done = subprocess.run(words, capture_output=True, text=True, timeout=harness.LONGEST)
+    done = subprocess.run(words, capture_output=True, text=True, timeout=harness.WHILE)
     assert done.returncode == 2 and done.stderr.startswith("plex-lsp: ")
     assert os.access(SERVER, os.X_OK)

@@ -43,7 +43,7 @@ FILES = sorted(
 )
 TABLES = [text.replace("@", "\n").encode("latin-1") for _, text in [*SENTENCES, *BROKEN_TEXTS]]
 LEAST_FOLDERS, LEAST_FILES, LEAST_TEXTS, LEAST_REFUSED = 6, 380, 180, 60
-WIDTH, LONGEST, A_MEGABYTE, APART = 80, 60, 2**20, 8
+WIDTH, LONGEST, A_MEGABYTE, APART = 80, harness.WHILE, 2**20, 8
 WORD = re.compile(r"![^\n]*|[A-Z][A-Z0-9]*|[0-9]+|<=|>=|<>|[;,()=+\-*/<>]")
 EASY = "BLOCK K;\nDECLARE;\nSURVEY;\nPROGRAM;\nEND BLOCK;\n"
 

@@ -10,12 +10,13 @@ from typing import Iterator
 
 import pytest
 
+from gate import harness
 from gate.test_rooms import TOOLS, files
 
 GATE = TOOLS / "gate"
 FILES = [path for path in files() if GATE in path.parents]
 LIMITED = ("run", "call", "check_call", "check_output", "communicate")
-SOON = 120
+SOON = harness.WHILE
 ROUND = """import signal
 
 def test_round():

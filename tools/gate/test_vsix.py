@@ -28,7 +28,7 @@ STUB = harness.ROOT / "tools" / "gate" / "vscode_stub.js"
 SCHEMA = "{http://schemas.microsoft.com/developer/vsx-schema/2011}"
 TYPES = "{http://schemas.openxmlformats.org/package/2006/content-types}"
 APART = ("tasks.json",)  # for the folder with texts, not for the editor
-LONGEST = 120
+LONGEST = harness.WHILE
 URI = "file:///nowhere/of/all/desk.plex"
 TEXT = """SIGNAL CALL SINGLE BUFFERED B DATA 1;
 BLOCK DESK;
