@@ -18,7 +18,7 @@ import time
 from typing import Any, Optional
 
 NAMES = ("chromium", "chromium-browser", "google-chrome", "chrome")
-LONGEST = 240
+LONGEST, PATIENCE = 300, 240  # seconds for an answer, and for a value that a page comes to
 OPTIONS = (
     "--headless=new",
     "--no-sandbox",
@@ -166,6 +166,15 @@ class Browser:
             thrown = done["exceptionDetails"].get("exception", {})
             raise BrowserFault(f"{script[:80]}: {thrown.get('description', '')[:200]}")
         return done["result"].get("value")
+
+    def comes_to(self, script: str, wanted: int) -> Any:
+        """The value of a script as soon as it is this one, or after a long while."""
+        return self.value(
+            f"new Promise((done) => {{ const end = Date.now() + {1000 * PATIENCE};"
+            f" const look = () => {{ const value = {script};"
+            f" if (value === {wanted} || Date.now() > end) done(value); else setTimeout(look, 20);"
+            " }; look(); })"
+        )
 
     def click(self, selector: str) -> None:
         """Clicks the middle of the first element that a selector names, where it then stands on the

@@ -387,10 +387,9 @@ class Look:
         self.window.value(
             "document.querySelector('#table tbody tr:nth-child(250)').scrollIntoView()"
         )
-        count = "document.querySelectorAll('#table tr:nth-child(250) td').length"
-        later = f"requestAnimationFrame(() => setTimeout(() => done({count}), 100))"
-        made = f"new Promise((done) => {later})"
-        self.need(self.window.value(made) == 256, "a row far below does not get its places")
+        places = "document.querySelectorAll('#table tr:nth-child(250) td').length"
+        came = self.window.comes_to(places, 256)
+        self.need(came == 256, f"a row far below gets {came} places")
         self.window.click("#table tbody tr:nth-child(250) td:nth-of-type(248)")
         self.shows(["Pair 249 247:"], "a pair far below")
         self.window.click('[data-entry="7"]')
