@@ -2,9 +2,10 @@
 
 The server waits for 0.05 seconds without a key, and then tells the faults near the edit. What it
 takes of the processor until these are told is bounded, so that they are there within 0.2 seconds
-where a processor is free; time of a clock would tell how much else the machine does. The bound
-holds too where the edit comes while the server looks at the whole text behind an earlier one, and
-where that earlier one was in another block.
+where a processor is free; time of a clock would tell how much else the machine does. On a machine
+that is slower than the one of the known figures (measured.py) the bound is as much larger. It holds
+too where the edit comes while the server looks at the whole text behind an earlier one, and where
+that earlier one was in another block.
 """
 from __future__ import annotations
 
@@ -18,11 +19,14 @@ import pytest
 
 from gate.lsp_client import LONGEST, Client, Json
 from gate.lsp_example import need_module
+from measure import measured
 from plextools.lsp.checks import PAUSE
+
+pytestmark = pytest.mark.alone
 
 BLOCKS, ENTRIES, TURNS = "ABCDEFGHIJ", 20, 24
 MOST_SECONDS = 0.2 - PAUSE
-TRIES = 3  # the least of them counts
+TRIES, MOST_TRIES = 3, 10  # the least of them counts; more are made where it is too much
 INTO_WHOLE = 0.1  # so long a look at the whole text has gone on
 MOST_OF_ALL = 0.6  # of the time for all blocks, where one of ten has changed
 URI = "file:///nowhere/of/all/long.plex"
@@ -119,14 +123,15 @@ def told_of(client: Client, made: Json) -> set[str]:
 def test_processor_time(client: Client, name: str) -> None:
     """The faults near an edit come soon, and are gone soon behind its undoing."""
     old, new, word = EDITS[name]
-    taken = []
-    for _ in range(TRIES):
+    taken, most = list[float](), 0.0
+    while len(taken) < TRIES or min(taken) > most and len(taken) < MOST_TRIES:
         begun = seconds(client)
         told = told_of(client, change(old, new))
         taken.append(seconds(client) - begun)
         assert word in told
         assert word not in told_of(client, undone(old, new))
-    assert min(taken) <= MOST_SECONDS, taken
+        most = MOST_SECONDS * measured.pace()
+    assert min(taken) <= most, (taken, most)
 
 
 def undone(old: str, new: str, find: Callable[[str], int] = TEXT.rindex) -> Json:
@@ -161,7 +166,8 @@ def test_whole_given_up(client: Client) -> None:
             taken.append(seconds(client) - start)
             assert [one["code"] for one in told] == [word] * faults
         assert not told_of(client, undone(far_old, far_new, TEXT.index))
-    assert sorted(taken)[TRIES - 1] <= MOST_SECONDS, taken
+    most = MOST_SECONDS * measured.pace()
+    assert sorted(taken)[TRIES - 1] <= most, (taken, most)
 
 
 def whole(client: Client, made: Json, several: int) -> float:
