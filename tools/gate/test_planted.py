@@ -5,7 +5,7 @@ import re
 import pytest
 
 from gate.planted import tables
-from gate.planted.checks import CHECKS, TESTS, file_of
+from gate.planted.checks import ALONE, CHECKS, TESTS, file_of
 from gate.planted.planted import Edit, Planted
 from plextools import programs
 from plextools.commands.command_words import COMMANDS, OF_PLEX, Command
@@ -38,6 +38,12 @@ def test_row(row: Planted) -> None:
         assert text.count(row.old) == 1 and row.new != row.old
     else:
         assert row.program in programs.BY_NAME
+
+
+@pytest.mark.parametrize("name", TESTS)
+def test_alone(name: str) -> None:
+    """Planted faults of a check that measures time are tried alone, as the check itself is run."""
+    assert (name in ALONE) == ("pytest.mark.alone" in (ROOT / file_of(name)).read_text())
 
 
 def planted_in(tool: str) -> set[str]:

@@ -42,6 +42,8 @@ TESTS = (
     "trace_json",
     "vsix",
 )
+# Those that measure time, so that no other check may run beside them.
+ALONE = ("large_texts", "look_at_page", "lsp_speed")
 PYTEST = ("pytest-3", "-q", "-x", "-p", "no:cacheprovider")
 
 
