@@ -85,6 +85,7 @@ def pytest_addoption(parser: pytest.Parser) -> None:
 
 def pytest_configure(config: pytest.Config) -> None:
     """Settles the seed before processes start, so that all make the same cases."""
+    heed_interrupts()
     config.addinivalue_line("markers", "counted(cases): has so many cases, which are summed up")
     config.addinivalue_line(
         "markers", "by_chance(gate): makes cases by chance, so many in the gate"
@@ -99,6 +100,14 @@ def pytest_configure(config: pytest.Config) -> None:
         os.environ[PREFIX] = os.environ[COMPILED]
     elif getattr(config.option, "numprocesses", None):
         os.environ[COMPILED] = compiled(config)
+
+
+def heed_interrupts() -> None:
+    """Takes the interrupts that a job in the background of a script ignores: what is started would
+    ignore them too.
+    """
+    if signal.getsignal(signal.SIGINT) == signal.SIG_IGN:
+        signal.signal(signal.SIGINT, signal.default_int_handler)
 
 
 def compiled(config: pytest.Config) -> str:
