@@ -9,10 +9,11 @@ stand there.
 import io
 import os
 import sys
-from typing import Any, Optional, TextIO
+from typing import Any, List, Optional, TextIO
 
 INPUT, OUTPUT, COMPLAINTS = range(3)
 FULL = "/dev/full"  # which cannot be written to, by whatever name
+TAKEN: List[TextIO] = []  # as Python closes a stream that nothing names any more
 
 
 class Unwritten(Exception):
@@ -54,6 +55,7 @@ def take() -> None:
     output, complaints = Output(OUTPUT, "wb", False), Complaints(COMPLAINTS, "wb", False)
     sys.stdout = text_of(output, sys.stdout, output.isatty())
     sys.stderr = text_of(complaints, sys.stderr, True)
+    TAKEN.extend((sys.stdout, sys.stderr))
 
 
 def stand_in(number: int, name: str, mode: int = os.O_RDONLY) -> None:
