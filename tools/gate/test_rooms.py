@@ -45,7 +45,8 @@ ROOMS = {
     "gate/planted": BASE | {"gate.harness", "gate.planted"},
     "measure": BASE | {"gate.harness", "gate.makers", "measure"},
     "maintain": BASE
-    | {"gate.harness", "maintain", "measure.count_threads", "plextools.commands.command_words"},
+    | {"gate.harness", "gate.oracle", "maintain", "measure.count_threads"}
+    | {"plextools.commands.command_words"},
 }
 # Files that import more. One that no longer does is told, so that it does not stay here.
 MORE: dict[str, set[str]] = {}

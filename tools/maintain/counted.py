@@ -13,7 +13,7 @@ from typing import Dict, Iterator, List, NamedTuple
 
 TOOLS = pathlib.Path(__file__).resolve().parent.parent
 sys.path[:0] = [str(TOOLS), str(TOOLS / "python")]
-from maintain import crate_list, wrong_bodies  # noqa: E402
+from maintain import counted_runs, crate_list, wrong_bodies  # noqa: E402
 from plextools import limits  # noqa: E402
 
 ROOT = TOOLS.parent
@@ -94,7 +94,49 @@ SENTENCES = [
     Sentence("docs/FORMATS.md", "| restarts of a run | {restarts} |"),
     Sentence("docs/FORMATS.md", "| `--jobs`: {usual jobs} if it is not given, {jobs} at most |"),
     Sentence("docs/ANALYSIS.md", "an exchange has {statements} statements at most"),
+    Sentence("docs/CLAIMS.md", "all of it up to {bytes of conflicts} bytes"),
+    Sentence("docs/CLAIMS.md", "takes 2 MB, a text of {statements} statements"),
+    Sentence("docs/DECISIONS.md", "{unrolled}, each command that runs jobs"),
+    Sentence("docs/DECISIONS.md", "{looks of a pair}, a verdict is computed"),
+    Sentence("docs/DECISIONS.md", "than {looks of a fact} for each least fact"),
+    Sentence("docs/MACHINE.md", "counted as the {past the budget}st is the fault BUDGET"),
+    Sentence("docs/MACHINE.md", "| 10 | BUDGET | the {past the budget}st counted statement |"),
+    Sentence("docs/PERFORMANCE.md", "since it has at most {statements} statements"),
+    Sentence("docs/PERFORMANCE.md", "more than {unrolled} instructions for FREE"),
+    Sentence(
+        "docs/PERFORMANCE.md",
+        "{long with few} instructions in the mean with {usual workers} workers, "
+        "{long with most} with {workers}; the former are some {long job} statements.",
+    ),
+    Sentence(
+        "docs/THREADS.md", "{long with few} with four workers, {long with most} with {workers}"
+    ),
+    Sentence("docs/THREADS.md", "{first looks} looks at first"),
+    Sentence("docs/plex-conflicts.1", "would be more than {bytes of conflicts} bytes"),
+    Sentence("docs/plex-load.1", "{long job} statements or more with four"),
+    Sentence(
+        "docs/guide/06-porting-an-exchange.md", "| yes, up to {counted} statements in a job |"
+    ),
+    Sentence("docs/guide/06-porting-an-exchange.md", "the limit of {counted} statements for a job"),
+    Sentence("docs/guide/06-porting-an-exchange.md", "The old text has {lines before} lines"),
+    Sentence("docs/guide/06-porting-an-exchange.md", "and the ported one {lines after}, ["),
     Sentence("docs/guide/06-porting-an-exchange.md", "A job of more than {counted} statements"),
+    Sentence("docs/guide/11-a-switch-from-nothing.md", "at least {statements of a scan}."),
+    Sentence(
+        "docs/guide/11-a-switch-from-nothing.md", "{statements of a tick} statements a second"
+    ),
+    Sentence(
+        "docs/guide/13-periodic-jobs-and-a-time-out.md",
+        "Of the {jobs that poll} jobs of this run {polls} are LOOKs.",
+    ),
+    Sentence("docs/guide/17-which-change-pays.md", "{long job} statements or more, since the"),
+    Sentence(
+        "docs/guide/18-all-faults-at-once-and-what-is-odd.md",
+        "of at most {mebibytes of warnings} MiB",
+    ),
+    Sentence(
+        "docs/guide/18-all-faults-at-once-and-what-is-odd.md", "A text of {statements} statements"
+    ),
     Sentence(
         "docs/guide/06-porting-an-exchange.md", "at most {letters} bytes. The {keywords} keywords"
     ),
@@ -118,9 +160,16 @@ def names_in(table: str) -> int:
     return len(NAMES.findall(text.split(f"pub fn {table}", 1)[1].split("pub fn ", 1)[0]))
 
 
-def constant(check: str, name: str) -> int:
-    """A number that a check of the gate names at its top."""
-    tree = ast.parse((TOOLS / "gate" / f"{check}.py").read_text(encoding="utf-8"))
+def number_of(node: ast.expr) -> int:
+    """A number of a text in Python, which may be a power."""
+    if isinstance(node, ast.BinOp) and isinstance(node.op, ast.Pow):
+        return int(number_of(node.left) ** number_of(node.right))
+    return int(ast.literal_eval(node))
+
+
+def constant(module: str, name: str) -> int:
+    """A number that a file of the tools names at its top."""
+    tree = ast.parse((TOOLS / f"{module}.py").read_text(encoding="utf-8"))
     for node in tree.body:
         if isinstance(node, ast.Assign):
             target, value = node.targets[0], node.value
@@ -128,8 +177,54 @@ def constant(check: str, name: str) -> int:
             values = value.elts if isinstance(value, ast.Tuple) else [value]
             for one, number in zip(names, values):
                 if isinstance(one, ast.Name) and one.id == name:
-                    return int(ast.literal_eval(number))
-    raise KeyError(f"{check}: {name}")
+                    return number_of(number)
+    raise KeyError(f"{module}: {name}")
+
+
+def constant_of_crate(source: str, name: str) -> int:
+    """A number that a source of a crate names."""
+    text = (ROOT / "crates" / source).read_text(encoding="utf-8")
+    found = re.search(rf"\bconst {name}: \w+ = ([\d_]+);", text)
+    if not found:
+        raise KeyError(f"{source}: {name}")
+    return int(found[1])
+
+
+def lines_of(example: str) -> int:
+    """How many lines a file of the examples has."""
+    return (ROOT / "examples" / example).read_text(encoding="utf-8").count("\n")
+
+
+def of_sources() -> Dict[str, int]:
+    """The numbers that crates and tools name, and those that follow from them."""
+    found = {
+        "no sentences": constant("gate/test_sentences", "LEAST"),
+        "broken texts": constant("gate/test_broken_texts", "LEAST"),
+        "random runs": constant("gate/test_fuzz", "GATE"),
+        "compared runs": constant("gate/test_compare_runs", "GATE"),
+        "random texts": constant("gate/test_compare_texts", "GATE"),
+        "checked texts": constant("gate/test_compare_checks", "GATE"),
+        "conflicts": constant("gate/test_compare_conflicts", "GATE"),
+        "hostile": constant("gate/test_hostile", "LEAST"),
+        "bytes of conflicts": constant_of_crate("conflicts_meaning/src/rows.rt", "MOST_TOLD"),
+        "first looks": constant_of_crate("offload_policy/src/analysing.rt", "FIRST_LOOKS"),
+        "looks of a fact": constant_of_crate("least_facts/src/looks.rt", "LOOKS_OF_FACT"),
+        "looks of a pair": constant_of_crate("interference_check/src/table.rt", "MOST_LOOKS"),
+        "unrolled": constant_of_crate("run_answers/src/shortness.rt", "MOST_UNROLLED"),
+        "long job": limits.LONG_JOB,
+        "past the budget": limits.MOST_COUNTED + 1,
+        "periodic signals": limits.MOST_PERIODIC_SIGNALS,
+        "usual jobs": limits.USUAL_JOBS,
+        "usual workers": limits.USUAL_WORKERS,
+    }
+    looked_at = constant("python/plextools/text/warnings", "MOST_LOOKED_AT")
+    found["mebibytes of warnings"] = looked_at // 2**20
+    for name, workers in (("few", limits.USUAL_WORKERS), ("most", limits.MOST_WORKERS)):
+        found[f"long with {name}"] = limits.LEAST_LENGTH + limits.LENGTH_ALONE // workers
+    for name, value in vars(limits).items():
+        if name.startswith("MOST_") and isinstance(value, int):
+            found.setdefault(name[len("MOST_") :].lower(), value)
+    return found
 
 
 @functools.lru_cache(maxsize=None)
@@ -150,21 +245,10 @@ def numbers() -> Dict[str, int]:
         "programs run": kinds.count(False),
         "programs of others": kinds.count(True),
         "analyses": len([*(CASES / "analysis").iterdir()]),
-        "no sentences": constant("test_sentences", "LEAST"),
-        "broken texts": constant("test_broken_texts", "LEAST"),
-        "random runs": constant("test_fuzz", "GATE"),
-        "compared runs": constant("test_compare_runs", "GATE"),
-        "random texts": constant("test_compare_texts", "GATE"),
-        "checked texts": constant("test_compare_checks", "GATE"),
-        "conflicts": constant("test_compare_conflicts", "GATE"),
-        "hostile": constant("test_hostile", "LEAST"),
-        "usual jobs": limits.USUAL_JOBS,
-        "periodic signals": limits.MOST_PERIODIC_SIGNALS,
+        "lines before": lines_of("guide/port_before/old.plex"),
+        "lines after": lines_of("guide/port/exchange.plex"),
     }
-    for name, value in vars(limits).items():
-        if name.startswith("MOST_") and isinstance(value, int):
-            found.setdefault(name[len("MOST_") :].lower(), value)
-    return found
+    return {**of_sources(), **found, **counted_runs.numbers()}
 
 
 def pattern(words: str) -> "re.Pattern[str]":
