@@ -26,7 +26,7 @@ from gate.checking import check
 pytestmark = [pytest.mark.xdist_group("progress"), pytest.mark.long]
 
 LAUNCHER = harness.PLEX.launcher
-LONGEST = 300
+LONGEST = harness.WHILE
 SECONDS = 5  # of each run, by the pace of the program
 ALL, FEW = (400_000, 9_000_000), 100_000  # the jobs of a run at least and at most
 LINE = re.compile(rb"\rplex: (\d+) jobs done, (\d+) jobs a second\x1b\[K")
@@ -56,11 +56,14 @@ class Told(NamedTuple):
 
 
 class Silent(NamedTuple):
-    """The words of a run that tells nothing, the value of the variable, and its status."""
+    """The words of a run that tells nothing, the value of the variable, and its status. A short run
+    may last a second where others use the machine, but not each time.
+    """
 
     words: Sequence[str]
     progress: str
     status: int
+    tries: int = 1
 
 
 class Pace(NamedTuple):
@@ -90,7 +93,7 @@ class Pace(NamedTuple):
         trace = ["trace", "E", "S", "Q", "--jobs", str(self.fewer)]
         return {
             "run that is not asked": Silent(["run", "E", "S", "--workers", "1"], "", DONE),
-            "short run": Silent(["run", "E", "S", "--jobs", "100"], "1", CUT),
+            "short run": Silent(["run", "E", "S", "--jobs", "100"], "1", CUT, tries=10),
             "trace": Silent(trace, "1", CUT),
         }
 
@@ -174,7 +177,10 @@ def test_lines(run_told: Run) -> None:
 def test_silent(pace: Pace, folder: pathlib.Path, name: str) -> None:
     """A run that is not asked to tell, is short, or writes a trace tells nothing."""
     silent = pace.silent()[name]
-    done = run(pace, folder, silent.words, silent.progress)
+    for _ in range(silent.tries):
+        done = run(pace, folder, silent.words, silent.progress)
+        if not done.stderr:
+            break
     is_right = (done.returncode, done.stderr) == (silent.status, b"")
     check(None if is_right else f"status {done.returncode}, it tells {done.stderr[:100]!r}")
 
