@@ -2,31 +2,30 @@
 takes more now.
 
 case_costs.txt has a line for each run: the seconds of the processor, by the pace of the machine of
-the known figures, the megabytes, and the name. A run is worse where it takes more than twice its
-seconds and `BESIDE`, by the pace that this machine has in the same minute, or more than one and a
-half times its memory and a little; and where it lasts longer than what it does of the processor
-lets expect. One that is worse is made again, up to `TRIES` times in all, since others may use the
-machine beside it. Figures of a program that is not proved go for one that is too, but are made anew
-with it, by `pytest-3 test_large_texts.py -k case_costs --write`, as they are sharper then.
+the known figures, the megabytes, and the name; unproved_costs.txt has those of the program that is
+not proved. A run is worse where it takes more than twice its seconds and `BESIDE`, by the pace that
+this machine has then, or more than one and a half times its memory and a little; and where it lasts
+`ASLEEP` longer than twice what its seconds of the processor last on this machine then. One that is
+worse is made again, up to `TRIES` times in all, since others may use the machine beside it: the
+least of all tries counts, beside the least measure of the machine.
+`pytest-3 test_large_texts.py -k case_costs --write` makes the figures of a program anew.
 """
 import pathlib
 import time
-from typing import Callable, Dict, Iterable, NamedTuple, Optional
+from typing import Callable, Dict, Iterable, NamedTuple, Optional, Sequence
 
 from measure import measured
 
-COSTS = pathlib.Path(__file__).resolve().parent / "case_costs.txt"
+GATE = pathlib.Path(__file__).resolve().parent
 TIMES, BESIDE = 2.0, 0.03  # of a figure, and seconds
 MEMORY, MORE_MEMORY = 1.5, 8.0  # of a figure, and megabytes
-PASSES, ASLEEP = 10.0, 0.6  # how much longer than its seconds a run may last, and seconds
+LASTS, ASLEEP = 2.0, 0.5  # how much longer than its seconds a run may last, and seconds
 TRIES, MANY, TURNS, MEGABYTE = 5, 8, 3, 1024 * 1024  # MANY: then nothing is made again
-MINUTE = 30.0  # seconds for which a measure of the machine goes
-UNPROVED_TIMES = 2.0  # of a program that is not proved, beside figures of one that is
+MOMENT = 5.0  # seconds for which a measure of the machine goes
 HEAD = """# What each run of test_large_texts.py takes in the gate: seconds of the processor by the
 # pace of the machine of the known figures, megabytes, and its name. A run fails where it has no
 # figure or gets worse (costs.py). `pytest-3 test_large_texts.py -k case_costs --write` makes all
-# anew.
-# Made with {kind}.
+# anew, with {program}.
 """
 PROVED, UNPROVED = "a proved program", "a program that is not proved"
 
@@ -45,62 +44,76 @@ class Machine:
         self.renew()
 
     def renew(self) -> None:
-        self.measure, self.when = measured.machine(3), time.monotonic()
+        self.measure, self.when = measured.paced(3), time.monotonic()
 
-    def now(self) -> float:
-        if time.monotonic() - self.when > MINUTE:
+    def now(self) -> measured.Pace:
+        if time.monotonic() - self.when > MOMENT:
             self.renew()
         return self.measure
+
+
+class Try(NamedTuple):
+    """What a run came to, and the pace of the machine then."""
+
+    came: measured.Measure
+    pace: measured.Pace
 
 
 class Costs:
     """The figures of all runs. Where there are none to compare with, nothing is worse."""
 
-    def __init__(self, figures: Optional[Dict[str, Figure]], times: float = TIMES) -> None:
-        self.figures, self.times = figures, times
+    def __init__(self, figures: Optional[Dict[str, Figure]]) -> None:
+        self.figures = figures
 
-    def worse(self, name: str, came: measured.Measure, machine: float) -> Optional[str]:
-        """What is worse than the figure of a run, or None. `machine` is how much slower this
-        machine is now.
-        """
-        if self.figures is None or came.status is None:
+    def worse(self, name: str, tries: Sequence[Try]) -> Optional[str]:
+        """What is worse than the figure of a run, or None, by all tries of it."""
+        if self.figures is None or any(one.came.status is None for one in tries):
             return None
         figure = self.figures.get(name)
         if figure is None:
-            return f"it has no figure in {COSTS.name}, which `-k case_costs --write` makes anew"
-        most = (self.times * figure.seconds + BESIDE) * machine
-        if came.seconds > most:
+            return "it has no figure, which `-k case_costs --write` makes"
+        most = (TIMES * figure.seconds + BESIDE) * min(one.pace.machine for one in tries)
+        if min(one.came.seconds for one in tries) > most:
             return f"over {most:.2f} s, beside a figure of {figure.seconds:.3f} s"
         megabytes = MEMORY * figure.megabytes + MORE_MEMORY
-        if came.memory > megabytes * MEGABYTE:
+        if min(one.came.memory for one in tries) > megabytes * MEGABYTE:
             return f"over {megabytes:.0f} megabytes, beside a figure of {figure.megabytes:.0f}"
-        if came.passed > PASSES * came.seconds + ASLEEP:
-            return f"it lasted {came.passed:.1f} s, of which it worked {came.seconds:.2f} s"
+        least = min((one.came for one in tries), key=lambda came: came.passed)
+        if least.passed > LASTS * least.seconds * max(one.pace.delay for one in tries) + ASLEEP:
+            return f"it lasted {least.passed:.1f} s, of which it worked {least.seconds:.2f} s"
         return None
 
     def unknown(self, names: Iterable[str]) -> Iterable[str]:
         """The figures of runs that are not there."""
         return sorted(set(self.figures or ()) - set(names))
 
+    def missing(self, names: Iterable[str]) -> Iterable[str]:
+        """The runs that have no figure."""
+        return sorted(set(names) - set(self.figures or ()))
+
+
+def place(is_proved: bool) -> pathlib.Path:
+    """The file of the figures of a program that is proved or is not."""
+    return GATE / ("case_costs.txt" if is_proved else "unproved_costs.txt")
+
 
 def known(is_proved: bool) -> Costs:
-    """The figures of case_costs.txt, for a program that is proved or is not."""
+    """The figures of a program that is proved or is not."""
     figures: Dict[str, Figure] = {}
-    text = COSTS.read_text()
-    for line in text.splitlines():
+    for line in place(is_proved).read_text().splitlines():
         if line and not line.startswith("#"):
             seconds, megabytes, name = line.split(maxsplit=2)
             figures[name] = Figure(float(seconds), float(megabytes))
-    is_sharper = not is_proved and f"# Made with {PROVED}.\n" in text
-    return Costs(figures, TIMES * (UNPROVED_TIMES if is_sharper else 1))
+    return Costs(figures)
 
 
 def write(figures: Dict[str, Figure], is_proved: bool) -> None:
-    """Writes case_costs.txt anew."""
+    """Writes the figures of a program that is proved or is not."""
     lines = [
         f"{one.seconds:.3f} {one.megabytes:.0f} {name}\n" for name, one in sorted(figures.items())
     ]
-    COSTS.write_text(HEAD.format(kind=PROVED if is_proved else UNPROVED) + "".join(lines))
+    head = HEAD.format(program=PROVED if is_proved else UNPROVED)
+    place(is_proved).write_text(head + "".join(lines))
 
 
 def least(run: Callable[[], measured.Measure], tries: int) -> Figure:

@@ -16,8 +16,9 @@ measures them all, and writes that file.
 
 The tools for users have texts of their own (tool_cases.py), each with a bound.
 
-In the gate each run has a figure of its own too, in case_costs.txt, and fails where it takes more
-than twice that time, or one and a half times its memory, or sleeps; `--write` measures them all.
+In the gate each run has a figure of its own too, in case_costs.txt, or unproved_costs.txt for a
+program that is not proved, and fails where it takes more than twice that time, or one and a half
+times its memory, or sleeps; `--write` measures them all.
 
 The gate runs some cases of four megabytes, and the products in smaller sizes, which takes less than
 two minutes of the processor. With `--whole` all are run in full size, which takes half an hour, as
@@ -106,12 +107,12 @@ class Machine:
         """What is worse than the figure of a run, however often it is made; once where many are
         worse.
         """
-        told = self.costs.worse(name, came, self.now.now())
-        for _ in range(costs.TRIES - 1 if told and self.worse_runs < costs.MANY else 0):
+        tries = [costs.Try(came, self.now.now())]
+        told = self.costs.worse(name, tries)
+        while told and len(tries) < costs.TRIES and self.worse_runs < costs.MANY:
             self.now.renew()
-            told = self.costs.worse(name, run(), self.now.now())
-            if not told:
-                break
+            tries.append(costs.Try(run(), self.now.now()))
+            told = self.costs.worse(name, tries)
         self.worse_runs += told is not None
         return told
 
@@ -425,16 +426,17 @@ def figures_of_all(machine: Machine) -> Iterator[tuple[str, costs.Figure]]:
 
 
 def test_case_costs(machine: Machine, plex: pathlib.Path, pytestconfig: pytest.Config) -> None:
-    """Each figure of case_costs.txt is of a run of the gate; `--write` makes them anew."""
-    is_proved = proved.is_proved(plex)
+    """Each figure of a program is of a run of the gate; `--write` makes those of this one anew."""
     if pytestconfig.option.write:
-        costs.write(dict(figures_of_all(machine)), is_proved)
+        costs.write(dict(figures_of_all(machine)), proved.is_proved(plex))
     names = [case.name for case in large(False).values()]
     names += [
         f"{way}, {product.name}" for product in product_texts.PRODUCTS for way in ways_of(product)
     ]
-    unknown = costs.known(is_proved).unknown(names)
-    check(*(f"{costs.COSTS.name}: {name}: there is no such run" for name in unknown))
+    for is_proved in (True, False):
+        of, known = costs.place(is_proved).name, costs.known(is_proved)
+        check(*(f"{of}: {name}: there is no such run" for name in known.unknown(names)))
+        check(*(f"{of}: {name} has no figure" for name in known.missing(names)))
 
 
 @pytest.mark.parametrize("size", SIZES)

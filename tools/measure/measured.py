@@ -73,16 +73,31 @@ def measured(command: Sequence[object], folder: Union[str, pathlib.Path], most: 
     return Measure(None if status == -signal.SIGXCPU else status, seconds, memory, passed)
 
 
-def machine(tries: int = 1) -> float:
+class Pace(NamedTuple):
     """How much slower this machine is than the one of the known figures, below 1 where it is
-    faster: by a small piece of work of always the same size.
+    faster, and how many seconds pass for each one that it computes, as others use it too.
     """
-    taken = []
+
+    machine: float
+    delay: float
+
+
+def paced(tries: int = 1) -> Pace:
+    """The pace of this machine, by a small piece of work of always the same size: the least of some
+    tries, and their longest delay.
+    """
+    taken, delays = [], [1.0]
     for _ in range(tries):
-        begun = time.process_time()
+        clock, begun = time.monotonic(), time.process_time()
         sum(number % 7 for number in range(TURNS))
         taken.append(time.process_time() - begun)
-    return min(taken) / PACE
+        delays.append((time.monotonic() - clock) / taken[-1])
+    return Pace(min(taken) / PACE, max(delays))
+
+
+def machine(tries: int = 1) -> float:
+    """How much slower this machine is than the one of the known figures."""
+    return paced(tries).machine
 
 
 def pace() -> float:
