@@ -180,14 +180,12 @@ class Job(oracle_machine.Job):
 class Account(oracle_machine.Machine):
     """The second account of a run, with the signals of each job."""
 
+    job_of = Job
+
     def __init__(self, *words: Any) -> None:
         base: Any = super()
         base.__init__(*words)
         self.told: List[List[Sent]] = []
-
-    def next_job(self) -> Any:
-        enter, values, forlopp = next(jobs for jobs in self.waiting.values() if jobs).pop(0)
-        return Job(self, enter, values, forlopp, list(self.chains.get(forlopp, [])))
 
     def retire(self, job: Any, fault: Any) -> None:
         self.told.append(job.arrows)
@@ -588,7 +586,7 @@ def test_jobs_around_one(context: int, most: int) -> None:
 def test_jobs_around_the_first_fault() -> None:
     """Of several jobs that ended by a fault, the first one is taken."""
     names = files(FAULTS)
-    report = programs.answer(["run", *names], choice.ENDINGS).decode()
+    report = programs.answer(["run", *names], programs.ENDINGS).decode()
     faulted = [
         int(number) for number in re.findall(r"^(?:RELEASE F\d+|RESTART) job (\d+)", report, re.M)
     ]

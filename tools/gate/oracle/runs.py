@@ -20,9 +20,6 @@ STATUS = {"DONE": 0, "RESTART": 4, "LIMIT": 5}
 class Machine(oracle_machine.Machine):
     """The single run, turn by turn."""
 
-    def new_job(self, *start: Any) -> Any:
-        return oracle_machine.Job(self, *start)
-
     def ending(self) -> Optional[str]:
         """How the run is over, or None."""
         if self.restarts == MOST_RESTARTS:
@@ -33,7 +30,7 @@ class Machine(oracle_machine.Machine):
 
     def turn(self) -> None:
         enter, values, forlopp = next(jobs for jobs in self.waiting.values() if jobs).pop(0)
-        job = self.new_job(enter, values, forlopp, list(self.chains.get(forlopp, [])))
+        job = self.job_of(self, enter, values, forlopp, list(self.chains.get(forlopp, [])))
         fault = job.run()
         self.retire(job, fault)
         self.note(enter, values, job, fault)

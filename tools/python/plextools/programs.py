@@ -23,6 +23,7 @@ ROOT = (
     pathlib.Path(__file__).resolve().parents[3]
 )  # of the sources, where the tools are not installed
 LONGEST = 600
+ENDINGS = (0, 4, 5)  # the statuses of a run: its jobs are done, it was ended by restarts, or --jobs
 
 
 class Program(NamedTuple):

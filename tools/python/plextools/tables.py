@@ -36,6 +36,11 @@ def markdown_heads(heads: Sequence[str]) -> List[str]:
     return [markdown_row(heads), "|---" * len(heads) + "|"]
 
 
+def counted(number: int, what: str) -> str:
+    """So many of something, as `2,000 jobs`."""
+    return f"{number:,} {what}{'' if number == 1 else 's'}"
+
+
 def as_json(told: object, is_short: bool = False) -> str:
     """Data as JSON: for people a line for each value, or as short as it can be."""
     if is_short:

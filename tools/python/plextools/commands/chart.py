@@ -177,7 +177,7 @@ def run_of(given: Given) -> choice.Run:
     """The run, whose files plex accepts."""
     content, signals = programs.bytes_of(given.exchange), programs.bytes_of(given.signals)
     words = ["run", given.exchange, given.signals, "--workers", "1", "--jobs", "1"]
-    programs.answer(words, choice.ENDINGS)
+    programs.answer(words, programs.ENDINGS)
     text = Text(given.exchange, content)
     return choice.Run(given.exchange, given.signals, text, lines_of(text, signals), given.limit)
 
@@ -192,7 +192,7 @@ def observed(run: choice.Run, chosen: choice.Chosen, values: bool) -> Observed:
             if job.place % BETWEEN == 0:
                 line.draw(f"{job.place} jobs have run")
         words = [*run.words("run", limit), "--workers", "1"]
-        check.compare_report(machine, programs.lines_of(words, choice.ENDINGS))
+        check.compare_report(machine, programs.lines_of(words, programs.ENDINGS))
     except check.Different as different:
         raise check.refused(different) from different
     finally:

@@ -90,7 +90,7 @@ def run_of(given: Given, folder: str) -> choice.Run:
         with open(signals, "wb") as file:
             file.write(merged)
     words = ["run", given.exchange, signals, "--workers", "1", "--jobs", "1"]
-    programs.answer(words, choice.ENDINGS)
+    programs.answer(words, programs.ENDINGS)
     text = Text(given.exchange, content)
     lines = lines_of(text, programs.bytes_of(signals))
     return choice.Run(given.exchange, signals, text, lines, given.limit)

@@ -11,8 +11,8 @@ from plextools.runs import choice
 from plextools.runs.named import Data, Names, Spot, Unknown
 from plextools.runs.searches import NO_DEPTH, Place, Stop, Watched, Wish
 from plextools.runs.stepping import Stepper
-from plextools.show.step_text import AROUND, StepText, counted
-from plextools.tables import printed
+from plextools.show.step_text import AROUND, StepText
+from plextools.tables import counted, printed
 from plextools.text.hints import near
 
 SENDING = ("SEND", "RETURN", "TRANSFER")

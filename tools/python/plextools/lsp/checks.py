@@ -6,10 +6,10 @@ in them, so that it delays no answer.
 """
 import contextlib
 import gc
-import threading
 import time
 from typing import Any, Callable, Dict, Iterator, List, Optional
 
+from plextools.lsp.background import Background
 from plextools.lsp.diagnostics import published
 from plextools.lsp.documents import Document, Kind
 from plextools.lsp.judging import LARGEST_AT_ONCE, MOST, Judgement
@@ -44,7 +44,7 @@ def without_collections() -> Iterator[None]:
         gc.collect(0)
 
 
-class Checks:
+class Checks(Background):
     """The thread that checks."""
 
     def __init__(self, workspace: Workspace, publish: Callable[[Dict[str, Any]], None]) -> None:
@@ -53,26 +53,13 @@ class Checks:
         # what the last check of the whole text told, and what was told last
         self.whole: Dict[str, Told] = {}
         self.last: Dict[str, Told] = {}
-        self.is_over = False
-        self.changed = threading.Condition()
-        self.thread = threading.Thread(target=self.work, daemon=True)
-        self.thread.start()
+        super().__init__(self.due, self.whole, self.last)
+        self.start()
 
     def ask(self, uri: str, pause: float = PAUSE) -> None:
         """Has a document checked after a pause."""
         with self.changed:
             self.due[uri] = time.monotonic() + pause
-            self.changed.notify()
-
-    def forget(self, uri: str) -> None:
-        with self.changed:
-            self.due.pop(uri, None)
-            self.whole.pop(uri, None)
-            self.last.pop(uri, None)
-
-    def end(self) -> None:
-        with self.changed:
-            self.is_over = True
             self.changed.notify()
 
     def work(self) -> None:

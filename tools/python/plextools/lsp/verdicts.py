@@ -6,13 +6,13 @@ missing or refuses the text. An answer about a text that has been changed meanwh
 import os
 import subprocess
 import tempfile
-import threading
 from concurrent.futures import Future
 from typing import Dict, Iterator, List, NamedTuple, Optional, Tuple
 
 from plextools import programs
 from plextools.analysis.conflicts import HEAD, PROGRAM
 from plextools.analysis.lines import Analysis, NoAnalysis, read
+from plextools.lsp.background import Background
 from plextools.lsp.documents import Document
 from plextools.lsp.workspace import Workspace
 
@@ -80,17 +80,15 @@ def of_entry(analysis: Analysis, number: int) -> OfEntry:
     return OfEntry(never, tested, len(analysis.entries) - len(never) - len(tested))
 
 
-class Asking:
+class Asking(Background):
     """The thread that asks the program."""
 
     def __init__(self, workspace: Workspace) -> None:
         self.workspace = workspace
         self.known: Dict[str, Tuple[Document, "Future[Optional[Verdicts]]"]] = {}
         self.waiting: List[Tuple[Document, "Future[Optional[Verdicts]]"]] = []
-        self.changed = threading.Condition()
-        self.is_over = False
-        self.thread = threading.Thread(target=self.work, daemon=True)
-        self.thread.start()
+        super().__init__(self.known)
+        self.start()
 
     def ask(self, document: Document) -> "Future[Optional[Verdicts]]":
         """The answer about a document, which is asked for once."""
@@ -110,15 +108,6 @@ class Asking:
         if known is None or known[0] is not document or not known[1].done():
             return None
         return None if known[1].exception() else known[1].result()
-
-    def forget(self, uri: str) -> None:
-        with self.changed:
-            self.known.pop(uri, None)
-
-    def end(self) -> None:
-        with self.changed:
-            self.is_over = True
-            self.changed.notify()
 
     def work(self) -> None:
         while True:

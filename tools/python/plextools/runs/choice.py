@@ -16,9 +16,9 @@ from plextools import programs, progress, tables
 from plextools.runs.observed import Among, Observed, Seen
 from plextools.runs.signals import Line
 from plextools.text.hints import near
+from plextools.text.signal_files import WITHOUT_JOBS
 from plextools.text.statements import Signal, Text
 
-ENDINGS = (0, 4, 5)
 FAULTS = (
     "POINTER RANGE DIVIDE NOTOWN NOFORLOPP CHAIN BADEND DEPTH SENDS BUDGET".split()
 )  # as docs/MACHINE.md has them
@@ -26,12 +26,6 @@ ANY = "FAULT"
 ENDED = re.compile(rb"(?:RELEASE F\d+|RESTART) job (\d+) (\w+) at ")
 BETWEEN = 2000
 NONE_FITS = 1
-WITHOUT = {
-    "DIRECT": "a direct signal",
-    "COMBINED": "a combined signal",
-    "ANSWER": "an answer",
-    "OUTSIDE": "an outside signal",
-}
 
 
 class Run(NamedTuple):
@@ -101,7 +95,9 @@ def whole(run: Run, fault: Optional[str]) -> Whole:
     jobs, ending, faults = 0, "", 0
     found: Optional[Faulted] = None
     words: Set[str] = set()
-    for line in programs.lines_of([*run.words("run", run.limit), "--workers", "1"], ENDINGS):
+    for line in programs.lines_of(
+        [*run.words("run", run.limit), "--workers", "1"], programs.ENDINGS
+    ):
         told = ENDED.match(line)
         if told:
             one = Faulted(int(told[1]), told[2].decode("ascii"))
@@ -121,7 +117,7 @@ def traced(run: Run, filter_lines: Iterable[str], limit: int) -> Iterator[bytes]
         show = os.path.join(folder, "show")
         with open(show, "w", encoding="ascii") as file:
             file.writelines(line + "\n" for line in filter_lines)
-        yield from programs.lines_of(run.words("trace", limit, show), ENDINGS)
+        yield from programs.lines_of(run.words("trace", limit, show), programs.ENDINGS)
 
 
 def listed(numbers: Sequence[int]) -> str:
@@ -180,7 +176,7 @@ class Chooser:
         if signal is None:
             raise self.unknown("signal", name, self.text.signals)
         if not signal.level:
-            told = f"no job starts by {name}, which is {WITHOUT[signal.kind]}"
+            told = f"no job starts by {name}, which is {WITHOUT_JOBS[signal.kind]}"
             self.notes.append(f"{told}: the jobs that send it are shown")
         return signal
 

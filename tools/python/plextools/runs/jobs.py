@@ -25,7 +25,6 @@ from plextools.runs.touches import Foot, TouchedContext, TouchedProgram, Trails,
 from plextools.text.statements import Text
 
 PATIENCE = 20_000_000
-ENDINGS = (0, 4, 5)
 BETWEEN = 2000
 
 
@@ -227,7 +226,9 @@ def trace_of(exchange_name: str, signals_name: str, limit: int) -> Iterator[List
         show = os.path.join(folder, "show")
         with open(show, "w", encoding="ascii") as file:
             file.write("SHOW\n")
-        wrote = answer(["trace", exchange_name, signals_name, show, "--jobs", str(limit)], ENDINGS)
+        wrote = answer(
+            ["trace", exchange_name, signals_name, show, "--jobs", str(limit)], programs.ENDINGS
+        )
     for line in wrote.decode("ascii").split("\n"):
         words = line.split(" ")
         if words[0] not in ("JOB", "SEND"):
@@ -260,7 +261,7 @@ def jobs_of(
     are done statement by statement.
     """
     signals, name = bytes_of(signals_name), exchange.text.name
-    answer(["run", name, signals_name, "--workers", "1", "--jobs", "1"], ENDINGS)
+    answer(["run", name, signals_name, "--workers", "1", "--jobs", "1"], programs.ENDINGS)
     lines = lines_of(exchange.text, signals)
     machine: Recorder
     if touches:
@@ -275,7 +276,7 @@ def jobs_of(
         return traced(exchange, Program(exchange.text), lines, signals_name, machine)
     words = ["run", name, signals_name, "--workers", "1", "--jobs", str(limit)]
     try:
-        check.compare_report(machine, programs.lines_of(words, ENDINGS))
+        check.compare_report(machine, programs.lines_of(words, programs.ENDINGS))
     except check.Different as different:
         raise check.refused(different) from different
     return machine.load(False)

@@ -16,6 +16,7 @@ from plextools.runs.steps import Program
 
 LEVELS = "ABCD"
 USUAL_JOBS, LAST_RESTART = 1_000_000, 3
+COUNTERS = ("drawn", "came", "ended", "restarts", "arrived", "counted")  # of a run
 
 
 class TooLong(Exception):
@@ -128,7 +129,8 @@ class State(NamedTuple):
     dead: Set[int]
     dead_upto: int
     origins: Dict[int, int]
-    numbers: Tuple[int, ...]
+    counters: Sequence[int]
+    begun: bool
     events: int
     ending: str
 
@@ -367,15 +369,8 @@ class Machine:
             set(self.dead),
             self.dead_upto,
             dict(self.origins),
-            (
-                self.drawn,
-                self.came,
-                self.ended,
-                self.restarts,
-                self.arrived,
-                self.counted,
-                int(self.begun),
-            ),
+            [getattr(self, name) for name in COUNTERS],
+            self.begun,
             len(self.events),
             self.ending,
         )
@@ -396,16 +391,9 @@ class Machine:
             state.dead_upto,
             dict(state.origins),
         )
-        (
-            self.drawn,
-            self.came,
-            self.ended,
-            self.restarts,
-            self.arrived,
-            self.counted,
-            begun,
-        ) = state.numbers
-        self.begun, self.ending = bool(begun), state.ending
+        for name, number in zip(COUNTERS, state.counters):
+            setattr(self, name, number)
+        self.begun, self.ending = state.begun, state.ending
         del self.events[state.events :]
         self.context.callers.clear()
 

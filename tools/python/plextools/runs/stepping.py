@@ -322,7 +322,7 @@ class Stepper:
             self.find_difference()
         check.compare_report(self.machine, report)
         words = [*self.run.words("run", self.run.limit), "--workers", "1"]
-        check.compare_report(self.machine, programs.lines_of(words, choice.ENDINGS))
+        check.compare_report(self.machine, programs.lines_of(words, programs.ENDINGS))
         self.is_compared = True
 
     def find_difference(self) -> None:

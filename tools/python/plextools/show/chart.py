@@ -21,6 +21,7 @@ from plextools.runs.observed import (
     Seen,
     Stored,
 )
+from plextools.tables import counted
 from plextools.text.statements import Text
 
 EDGE = 0  # the lane of outside
@@ -142,10 +143,6 @@ def wrapped(text: str, letters: int) -> List[str]:
         text = plain(text)
     parts = textwrap.wrap(text, max(letters, 1), break_on_hyphens=False)
     return [plain(part) for part in parts] or [""]
-
-
-def counted(number: int, what: str) -> str:
-    return f"{number:,} {what}{'' if number == 1 else 's'}"
 
 
 class Maker:

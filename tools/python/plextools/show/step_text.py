@@ -10,7 +10,7 @@ from plextools.runs.running import Sent
 from plextools.runs.searches import Write
 from plextools.runs.stepping import Frame, Stepper
 from plextools.runs.values import FIRST_TEMPORARY
-from plextools.tables import printed
+from plextools.tables import counted, printed
 from plextools.text.grammar import Node
 
 MOST_SHOWN, MOST_JOBS, LONGEST, AROUND = 100, 20, 200, 5
@@ -249,10 +249,6 @@ class StepText:
         yield from map(self.machine.told_event, events[-MOST_JOBS:])
         if not events:
             yield "nothing has left the exchange"
-
-
-def counted(number: int, what: str) -> str:
-    return f"{number:,} {what}{'' if number == 1 else 's'}"
 
 
 def in_lines(words: Iterable[str]) -> List[str]:

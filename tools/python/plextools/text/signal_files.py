@@ -35,6 +35,7 @@ KINDS = {
 }
 WITHOUT_JOBS = {**KINDS, "ANSWER": "an answer"}
 SKIPPED, IN_FORLOPP, IN_NONE, BY_AS, BROKEN = range(5)
+LATE_COMMENT = "a comment behind a line: ! begins one only as the first byte of a line"
 NO_AS = "a period ends in NEW or NONE, and in no AS"
 PARTS = ["BLOCK", "SIGNAL", "FORLOPP", "FROM", "UPTO", "FAULTS"]
 
@@ -55,7 +56,7 @@ def not_a_number(word: str, what: str) -> str:
     if "," in word:
         return f"{shown(word)}: blanks stand between values, and no commas"
     if word[:1] == "!":
-        return "a comment behind a line: ! begins one only as the first byte of a line"
+        return LATE_COMMENT
     return f"{what} is a number; {shown(word)} is none"
 
 
@@ -424,7 +425,7 @@ class Filter(LineFile):
         if word.upper() in PARTS:
             return f"{shown(word)} has small letters: {word.upper()}"
         if word[:1] == "!":
-            return "a comment behind a line: ! begins one only as the first byte of a line"
+            return LATE_COMMENT
         return f"{shown(word)} is no part of a line: {any_of(PARTS)} may stand here"
 
     def look_at_names(self, words: List[str], shows: Dict[str, int]) -> None:
