@@ -242,6 +242,12 @@ def ended_late(process: "subprocess.Popen[bytes]") -> Iterator[None]:
         timer.cancel()
 
 
+def processor() -> float:
+    """The seconds of the processor that ended children have taken."""
+    used = resource.getrusage(resource.RUSAGE_CHILDREN)
+    return used.ru_utime + used.ru_stime
+
+
 def late() -> None:
     """Notes that a call did not end in time."""
     LATE.append(True)

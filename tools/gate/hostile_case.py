@@ -67,7 +67,7 @@ END BLOCK;
 ANY_WRITTEN = None
 GONE = "gone"
 NOBODY = 65534
-SILENT, FAULTY = (0, 4, 5), (2, 3, 9, 11, 12, 13)
+FAULTY = (2, 3, 9, 11, 12, 13)
 ENVIRONMENT = {name: value for name, value in os.environ.items() if name != "PLEX_PROGRESS"}
 NAMES = "run, single, analyse, certify, list, load, timed, change or trace"
 UNWRITTEN = "plex: the output could not be written whole: "
@@ -116,7 +116,7 @@ class Case:
         installed: bool = False,
     ) -> None:
         self.name, self.status, self.text, self.words = name, status, text, list(words)
-        self.error = "" if status in SILENT or "2>" in str(output) else error
+        self.error = "" if status in harness.SILENT or "2>" in str(output) else error
         self.output, self.limit, self.locked, self.installed = output, limit, locked, installed
         self.files: dict[str, Content] = {"E": TICKS, "S": THREE, "T": "", "Q": "", "X": TENS}
         self.files.update(files)

@@ -2,18 +2,13 @@
 `test_progress_line.py`.
 """
 import pathlib
-import resource
 import subprocess
 from typing import Sequence, Union
 
+from gate import harness
+
 JOBS = 50_000  # of the run that is timed
 SHORTEST, LONGEST = 0.001, 600  # seconds
-
-
-def processor() -> float:
-    """The seconds of the processor that ended children have taken."""
-    used = resource.getrusage(resource.RUSAGE_CHILDREN)
-    return used.ru_utime + used.ru_stime
 
 
 def jobs_in(
@@ -24,7 +19,7 @@ def jobs_in(
     most: int,
 ) -> int:
     """About so many jobs does a run of these words in so many seconds, within bounds."""
-    begun = processor()
+    begun = harness.processor()
     subprocess.run(
         [*words, "--jobs", str(JOBS)],
         cwd=folder,
@@ -34,5 +29,5 @@ def jobs_in(
         timeout=LONGEST,
         check=False,
     )
-    taken = max(SHORTEST, processor() - begun)
+    taken = max(SHORTEST, harness.processor() - begun)
     return max(least, min(most, int(JOBS * seconds / taken)))

@@ -12,11 +12,7 @@ from typing import Callable, Iterable, Mapping, Optional, Sequence, Union
 from gate.makers import colliding_texts
 from plextools.limits import MOST_BYTES, MOST_PERIODIC_SIGNALS
 
-UNIT = (
-    b"SIGNAL A SINGLE BUFFERED B DATA 0;\nBLOCK C;\n"
-    b"DECLARE;\nVARIABLE N WIDTH 32;\nSURVEY;\nPROGRAM;\n"
-)
-END = b"END BLOCK;\n"
+UNIT, END = colliding_texts.BEFORE, colliding_texts.AFTER
 STATEMENT = b"N = N + 1;\n"
 NESTED = b"IF N = 0 THEN\n" * 12 + b"FI;" * 12 + b"\n"
 HEAD = b"BLOCK C;\nDECLARE;\n"
@@ -368,23 +364,19 @@ FALLING = b"EVERY 1 FROM %07d TIMES 1 A C NEW\n"
 MANY = ["--jobs", "10000000"]
 
 
-def table(
-    name: str,
-    text: Text,
-    told: Fixed,
-    status: int = 0,
-    signals: bytes = b"",
-    large: int = MOST_BYTES,
+def third(
+    words: Sequence[str], name: str, text: Text, told: Fixed, status: int, signals: bytes
 ) -> Case:
-    told_of = for_each_size(told)
-    return Case(
-        name,
-        status,
-        lambda size: {"E": COUNTS, "S": signals, "T": text(size)},
-        told_of,
-        ["timed", "E", "S", "T", *MANY],
-        large,
-    )
+    """A command with a third file, which has the size of the case."""
+
+    def files(size: int) -> dict[str, bytes]:
+        return {"E": COUNTS, "S": signals, words[-1]: text(size)}
+
+    return Case(name, status, files, for_each_size(told), [*words, *MANY])
+
+
+def table(name: str, text: Text, told: Fixed, status: int = 0) -> Case:
+    return third(["timed", "E", "S", "T"], name, text, told, status, b"")
 
 
 def periods(name: str, text: Text, large: int = MOST_PERIODIC_SIGNALS) -> Case:
@@ -457,14 +449,7 @@ UNKNOWN = b"SHOW BLOCK Q\n"
 
 
 def shows(name: str, text: Text, told: Fixed, status: int = 0, signals: bytes = FIRST) -> Case:
-    told_of = for_each_size(told)
-    return Case(
-        name,
-        status,
-        lambda size: {"E": COUNTS, "S": signals, "Q": text(size)},
-        told_of,
-        ["trace", "E", "S", "Q", *MANY],
-    )
+    return third(["trace", "E", "S", "Q"], name, text, told, status, signals)
 
 
 def traced(count: int) -> bytes:
