@@ -7,9 +7,9 @@ those of `plex analyse`. Where a value stops being one that came with the signal
 make it one of itself, by the rules of oracle.analysis. What is printed of each pair must be what
 `oracle.why` tells: its reasons, statements, what they do, and what helps. The tests of a pair that
 is never run together, which plex-load takes where its conflicts are left out, must be those of
-oracle.analysis too, and `plex-why --json` must say what the lines of plex-why do. A pair of each
-exchange is asked for alone, as pairs are where a text of all pairs has no room, and has the same
-told of it.
+oracle.analysis too, and `plex-why --json` must say what the lines of plex-why do. What is told of
+links must be what `oracle.links` finds. A pair of each exchange is asked for alone, as pairs are
+where a text of all pairs has no room, and has the same told of it.
 """
 from __future__ import annotations
 
@@ -23,11 +23,13 @@ import pytest
 
 from gate import harness, why_text
 from gate.checking import Tally, check, check_enough
-from gate.makers import made_exchange
+from gate.makers import made_exchange, made_links
 from gate.oracle import analysis as oracle_analysis
+from gate.oracle import links as oracle_links
 from plextools import tables
 from plextools.analysis import conflicts as all_conflicts
 from plextools.analysis import why as why_lines
+from plextools.analysis.links import Link
 from plextools.show import pair_json
 
 GATE = 300
@@ -38,6 +40,7 @@ NAMES = sorted(path.parent.name for path in CASES.glob("*/exchange"))
 # How many of each there must be, for each exchange that is made.
 LEAST_CASES = 65
 LEAST = {"lines": 15, "statements": 20, "faults": 15, "origins": 20, "conflicts": 10, "tests": 30}
+OF_LINKS, LEAST_OF_LINKS = 60, {"links": 4}  # exchanges whose jobs read record numbers
 
 
 def told_accesses(exchange: Any, summary: Any, node: Any) -> Iterator[str]:
@@ -89,7 +92,7 @@ class Comparison:
     """Compares what is found of an exchange."""
 
     def __init__(self) -> None:
-        self.counts, self.wrong = dict.fromkeys(LEAST, 0), list[str]()
+        self.counts, self.wrong = dict.fromkeys([*LEAST, *LEAST_OF_LINKS], 0), list[str]()
 
     def need(self, holds: object, told: str) -> None:
         """Notes what does not hold."""
@@ -147,6 +150,7 @@ class Comparison:
 
     def pairs(self, exchange: Any, slow: Any, summaries: list[Any]) -> None:
         """The first conflict or all tests of each pair, and the statements for them."""
+        links = oracle_links.Links(slow, summaries)
         for i, first in enumerate(summaries):
             for j, later in enumerate(summaries):
                 self.verdict(exchange, i, j)
@@ -156,6 +160,7 @@ class Comparison:
                     f"pair {i} {j}: tests",
                 )
                 self.reasons(exchange, i, j)
+                self.links(exchange, links.of_pair(i, j), i, j)
                 self.need(
                     as_lines(exchange, i, j) == as_objects(exchange, i, j),
                     f"pair {i} {j}: --json",
@@ -188,6 +193,23 @@ class Comparison:
                 f"pair {i} {j}: no statement for {reason.told}",
             )
             self.need(pair.cure(reason), f"pair {i} {j}: nothing helps against {reason.told}")
+
+    def links(self, exchange: Any, wanted: dict[str, list[Any]], i: int, j: int) -> None:
+        """What the record numbers of each conflict are read from, and what is behind links."""
+        behind = list[str]()
+        for reason in exchange.conflicts.conflicts(i, j):
+            is_counter = exchange.counters.is_counter(i, j, reason)
+            links = [] if is_counter else wanted.get(reason.told, [])
+            got = exchange.links.of(i, j, reason)
+            self.need(got == links, f"pair {i} {j}: {reason.told}: {got} and not {links}")
+            behind += [] if links or is_counter else [reason.told]
+            self.counts["links"] += len(links)
+        if not behind:
+            tests = exchange.conflicts.tests(i, j)
+            left = [test for test in tests if not exchange.counters.is_counter(i, j, test)]
+            behind = [f"IF {test.told}" for test in left]
+        got = exchange.links.behind(i, j)
+        self.need(got == behind, f"pair {i} {j}: behind links {got} and not {behind}")
 
     def asked_alone(self, exchange: Any) -> None:
         """A pair for which a text of all pairs has no room is asked for alone, and has the same
@@ -253,9 +275,14 @@ def as_objects(exchange: Any, i: int, j: int) -> list[str]:
         lines.append(f"what helps: {reason['helps']}")
         names = exchange.counters.of(i, j, meant) if reason["counter"] else []
         lines += [HEADS.sub("", line) for line in why_lines.counter_words(meant, names)]
-    if any(reason["counter"] for reason in pair["reasons"]):
-        behind = ", ".join(pair["behind"]) or "nothing"
-        lines.append(HEADS.sub("", f"{why_lines.BEHIND}{behind}"))
+        links = [Link(*link.values()) for link in reason["links"]]
+        lines += why_lines.link_words(links, EVERYTHING)
+    for kind, member, head in (
+        ("counter", "behind", why_lines.BEHIND),
+        ("links", "behind_links", why_lines.BEHIND_LINKS),
+    ):
+        if any(reason[kind] for reason in pair["reasons"]):
+            lines.append(f"{head}{', '.join(pair[member]) or 'nothing'}")
     if not lines:
         lines.append(f"PAIR {i} {j} always together, unless they are of one forlopp")
     return [" ".join(line.split()) for line in lines]
@@ -293,6 +320,13 @@ def test_by_chance(folder: pathlib.Path, seed: str, counts: Tally, number: int) 
     """An exchange made by chance."""
     exchange = made_exchange.made_case(random.Random(f"{seed}.{number}")).exchange
     counts.add("compared why", compare(exchange, folder).counts, LEAST)
+
+
+@pytest.mark.by_chance(OF_LINKS)
+def test_links(folder: pathlib.Path, seed: str, tally: Tally, number: int) -> None:
+    """An exchange made by chance, whose jobs read numbers of records from stored data."""
+    exchange = made_links.made(random.Random(f"{seed} links {number}")).encode()
+    tally.add("compared links", compare(exchange, folder).counts, LEAST_OF_LINKS)
 
 
 def test_all_cases_are_there() -> None:

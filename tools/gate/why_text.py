@@ -12,8 +12,9 @@ from plextools.tables import quoted
 ALL = 10**9  # statements of a side
 VERDICT = re.compile(r"PAIR \d+ \d+ (?:NEVER|IF) (.*)|also: (.*)")
 CURE = "  what helps: "
-# What is said of counters, which test_compare_counters.py looks at.
+# What is said of counters, which test_compare_additions.py looks at, and of links.
 ASIDE = (why_lines.COUNTER, why_lines.TODAY, why_lines.BEHIND, "    added up", "    who reads")
+OF_LINKS = (why_lines.LINK, why_lines.BEHIND_LINKS, "    both would run", "    begin, and")
 UNKNOWN = {
     "changed by ON": "ON",
     "found by FOR FIRST": "FOR",
@@ -42,7 +43,7 @@ def read(lines: Iterator[str], name: str) -> List[Reason]:
             is_later = False
         elif line.startswith(CURE):
             found[-1] = found[-1]._replace(cure=line[len(CURE) :])
-        elif line.startswith(ASIDE):
+        elif line.startswith(ASIDE + OF_LINKS):
             continue
         else:
             is_later = is_later or line.startswith("  later, ")

@@ -330,8 +330,8 @@ OF_WHY = [
         "stored_is_computed",
         "stored and computed change places",
         FACTS,
-        'return [] if part.kind == "block" else [Origin(node.point, "stored")]',
-        'return [] if part.kind == "block" else [Origin(node.point, "computed")]',
+        'return [] if part.kind == "block" else [Origin(node.point, "stored", number)]',
+        'return [] if part.kind == "block" else [Origin(node.point, "computed", number)]',
     ),
     why(
         "two_tests",

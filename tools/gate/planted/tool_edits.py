@@ -11,6 +11,7 @@ COMMANDS = "tools/python/plextools/commands"
 RECORDS, LONG_FORM = f"{SHOW}/records.py", f"{SHOW}/long_form.py"
 TEXT = "tools/python/plextools/text"
 EXPLANATIONS = f"{TEXT}/explanations.py"
+LINKS = "tools/python/plextools/analysis/links.py"
 CHECKS, WAYS = "tools/python/plextools/lsp/checks.py", f"{TEXT}/ways.py"
 CHECK, WHY, TEST = (f"{COMMANDS}/{name}.py" for name in ("check", "why", "test"))
 CHART, CHART_SVG, CHART_WORDS = (
@@ -20,6 +21,13 @@ CHOICE, CASE_RUNS = f"{RUNS}/choice.py", f"{RUNS}/case_runs.py"
 PAIR_JSON, OUTCOMES, DIFFERENCES = (
     f"{SHOW}/{name}.py" for name in ("pair_json", "outcomes", "differences")
 )
+
+
+OF_LINKS = ("-k", "test_links", "--cases", "20")
+
+
+def linked(name: str, told: str, old: str, new: str) -> Edit:
+    return Edit(name, "plex-why", told, "compare_why", LINKS, old, new, OF_LINKS)
 
 
 def shown(name: str, told: str, file: str, old: str, new: str, only: str = "") -> Edit:
@@ -175,6 +183,40 @@ OF_CHECK = [
 ]
 
 OF_WHY = [
+    linked(
+        "link_of_unknown_record",
+        "a number that is read from a record that is not known itself is a link",
+        "if is_plain and not made.facts.has_any(node.point, made.slot(node, part.pointer)):",
+        "if is_plain:",
+    ),
+    linked(
+        "link_beside_another_number",
+        "a record is one of a link where its number may come from elsewhere too",
+        "links if len(links) == len(found) else None",
+        "links",
+    ),
+    linked(
+        "link_in_own_record",
+        "a number that is read from a record of a forlopp is a link",
+        "is_plain = not text.block_of(node).file_of[part.name].forlopp",
+        "is_plain = True",
+    ),
+    linked(
+        "link_behind_links",
+        "behind links stand the conflicts that are about links",
+        "and not self.of(i, j, reason)",
+        "",
+    ),
+    Edit(
+        "link_not_in_json",
+        "plex-why",
+        "`--json` tells no links",
+        "compare_why",
+        PAIR_JSON,
+        '"links": of_links(pair.exchange.links.of(pair.i, pair.j, reason))',
+        '"links": []',
+        OF_LINKS,
+    ),
     Edit(
         "never_is_if",
         "plex-why",

@@ -23,10 +23,13 @@ class MayFault(NamedTuple):
 
 
 class Origin(NamedTuple):
-    """Where a value stops being one that came with the signal: the point, and what happens."""
+    """Where a value stops being one that came with the signal: the point, what happens, and in
+    which expression of the statement.
+    """
 
     point: int
     what: str
+    number: int = 0
 
 
 class Place(NamedTuple):
@@ -278,7 +281,7 @@ class Made:
         kept, kind = Place(node.point, slot), node.kind
         is_answer = slot[0] == "A" and slot != "AWAITS"
         if kind == "RETURN":
-            return self.of_value(node, node.exprs[int(slot[1:])]) if is_answer else []
+            return self.of_value(node, int(slot[1:])) if is_answer else []
         if is_answer:
             return []
         if kind in ("SEND", "TRANSFER") and self.enters(node, to):
@@ -287,7 +290,7 @@ class Made:
             if kind == "TRANSFER":
                 return [kept]
             number = int(slot[1:])
-            return self.of_value(node, node.exprs[number]) if number < len(node.exprs) else []
+            return self.of_value(node, number) if number < len(node.exprs) else []
         return self.of_temporary(node, to, slot) if slot[0] == "T" else [kept]
 
     def enters(self, node: Node, to: int) -> bool:
@@ -304,7 +307,7 @@ class Made:
             return [Place(here, f"{'E' if kind == 'ENTER' else 'A'}{number}")]
         if kind == "set" and self.is_temporary(node, node.first.text):
             if self.slot(node, node.first.text) == slot:
-                return self.of_value(node, node.exprs[0])
+                return self.of_value(node, 0)
         if kind in ("ON", "FOR", "SEIZE") and self.slot(node, node.temporary.text) == slot:
             aside, follows = self.text.leads(node)[0], node.next
             changed, other = (follows, aside) if kind == "SEIZE" else (aside, follows)
@@ -312,12 +315,13 @@ class Made:
             return found + ([kept] if to == other else [])
         return [kept]
 
-    def of_value(self, node: Node, expr: Expression) -> List[Source]:
-        part = alone(expr)
+    def of_value(self, node: Node, number: int) -> List[Source]:
+        """Where the value of an expression of a statement comes from."""
+        part = alone(node.exprs[number])
         if part is None or part.kind == "bracket":
-            return [Origin(node.point, "computed")]
+            return [Origin(node.point, "computed", number)]
         if part.kind == "name" and self.is_temporary(node, part.name):
             return [Place(node.point, self.slot(node, part.name))]
         if part.kind == "number":
-            return [Origin(node.point, "number")] if part.value >= 256 else []
-        return [] if part.kind == "block" else [Origin(node.point, "stored")]
+            return [Origin(node.point, "number", number)] if part.value >= 256 else []
+        return [] if part.kind == "block" else [Origin(node.point, "stored", number)]

@@ -21,6 +21,7 @@ from plextools import programs
 from plextools.analysis import conflicts
 from plextools.analysis.entry_facts import Made, facts_of
 from plextools.analysis.lines import ANY, Entry
+from plextools.analysis.links import Link, Links, Use
 from plextools.analysis.reasons import Numbers, Reason, selectors_of
 from plextools.analysis.counters import Counters
 from plextools.tables import quoted
@@ -28,6 +29,7 @@ from plextools.text.statements import Text
 
 SHOWN, WIDEST = 3, 46
 COUNTER, TODAY, BEHIND = "  a counter: ", "  plex today: ", "  behind what is added to: "
+LINK, BEHIND_LINKS = "  a link: ", "  behind links: "
 RECORDS = {"ARG": "of record ARG {0}", "CONST": "of record {0}", "ANY": "of any record"}
 DOES = {"READ": "reads", "WRITE": "writes", "SEIZE": "seizes", "FREE": "frees"}
 FAULTS = {
@@ -67,14 +69,6 @@ class Side(NamedTuple):
     what: str
     numbers: Tuple[int, ...] = ()
     parts: Tuple["Side", ...] = ()
-
-
-class Unknown(NamedTuple):
-    """A field that a statement of an entry uses in a record that is not known."""
-
-    entry: int
-    point: int
-    name: str
 
 
 class Sides(NamedTuple):
@@ -124,9 +118,10 @@ class Exchange:
         self.text, self.keeps_facts = Text(name, self.content), keeps_facts
         self.place = {declared: place for place, declared in enumerate(self.text.names)}
         self.made: Dict[int, Made] = {}
-        self.unknown: Dict[Unknown, str] = {}
+        self.unknown: Dict[Use, str] = {}
         self.sides: Dict[Side, List[Told]] = {}
         self.counters = Counters(self.conflicts)
+        self.links = Links(self.conflicts, self.counters)
 
     def entry(self, number: int) -> Entry:
         return self.analysis.entries[number]
@@ -157,8 +152,9 @@ class Exchange:
                 if line.endswith(f" {ANY}"):
                     name = line.split(" ")[2]
                     for point, _ in self.conflicts.statements(facts.entry, number):
-                        why = self.why_unknown(made, point, name)
-                        self.unknown[Unknown(facts.entry, point, name)] = why
+                        use = Use(facts.entry, point, name)
+                        self.unknown[use] = self.why_unknown(made, point, name)
+                        self.links.note(self.text, made, use)
             if not self.keeps_facts:
                 made.let_go()
 
@@ -195,7 +191,8 @@ class Exchange:
             "number": f"{subject} is a number above 255 {where}",
             "computed": f"{subject} is computed {where}",
         }[origins[0].what]
-        return told + (f", and {len(origins) - 1} more" if len(origins) > 1 else "")
+        more = len({origin[:2] for origin in origins}) - 1
+        return told + (f", and {more} more" if more else "")
 
     # the statements of a side
 
@@ -229,7 +226,7 @@ class Exchange:
         """Why a record is not known, where a line of a summary is about such a one."""
         if not line.endswith(f" {ANY}"):
             return ""
-        return f": {self.unknown[Unknown(side.entry, point, line.split(' ')[2])]}"
+        return f": {self.unknown[Use(side.entry, point, line.split(' ')[2])]}"
 
     def side_fields(self, side: Side) -> List[Told]:
         found = [told for one in side.parts for told in self.statements(one)]
@@ -482,8 +479,11 @@ def told(
             yield from placed(name, side, head, shown, max(map(len, heads)), widest)
         yield f"  what helps: {pair.cure(reason)}"
         yield from counter_words(reason, exchange.counters.of(i, j, reason))
+        yield from link_words(exchange.links.of(i, j, reason), shown)
     if any(exchange.counters.is_counter(i, j, reason) for reason in reasons):
         yield f"{BEHIND}{', '.join(exchange.counters.behind(i, j)) or 'nothing'}"
+    if any(exchange.links.of(i, j, reason) for reason in reasons):
+        yield f"{BEHIND_LINKS}{', '.join(exchange.links.behind(i, j)) or 'nothing'}"
 
 
 def counter_words(reason: Reason, names: Sequence[str]) -> Iterator[str]:
@@ -498,3 +498,14 @@ def counter_words(reason: Reason, names: Sequence[str]) -> Iterator[str]:
             adds = "an entry of a block SUMS at level D, which adds it up;"
             yield f"{TODAY}SEND what is added to {adds}"
             yield f"    who reads {name} there at a higher level sees it late"
+
+
+def link_words(links: Sequence[Link], shown: int) -> Iterator[str]:
+    """What is said of a conflict that is about records alone whose numbers are read from there."""
+    if links:
+        places = [f"{link.written} at line {link.line}" for link in links]
+        more = [f"{len(places) - shown} more places"] if len(places) > shown else []
+        names = list(dict.fromkeys(short(link.name) for link in links))
+        yield f"{LINK}a record number is read from {and_words([*places[:shown], *more])};"
+        yield "    both would run at once, in records that differ, if that were known when the jobs"
+        yield f"    begin, and {and_words(names)} were not written meanwhile"

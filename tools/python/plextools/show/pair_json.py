@@ -6,6 +6,7 @@ from typing import List, Optional, Sequence, TypedDict
 
 from plextools.analysis.additions import Additions
 from plextools.analysis.lines import Entry
+from plextools.analysis.links import Link
 from plextools.analysis.reasons import Reason
 from plextools.analysis.why import Exchange, Pair, Told
 
@@ -31,9 +32,20 @@ class OfStatement(TypedDict):
     does: str
 
 
+class OfLink(TypedDict):
+    """What a record number is read from: the line of the statement, the name of the variable or the
+    field with that of its block, and how it is written.
+    """
+
+    line: int
+    name: str
+    text: str
+
+
 class OfReason(TypedDict):
-    """A conflict or a test, the statements of both jobs, and what helps; and whether it is about a
-    counter, to which both only add.
+    """A conflict or a test, the statements of both jobs, and what helps; whether it is about a
+    counter, to which both only add; and what the record numbers are read from that it is about
+    alone.
     """
 
     reason: str
@@ -41,12 +53,13 @@ class OfReason(TypedDict):
     later: List[OfStatement]
     helps: str
     counter: bool
+    links: List[OfLink]
 
 
 class OfPair(TypedDict):
     """A pair, with its verdict: NEVER, IF or ALWAYS. `behind` are the conflicts, or else the tests,
-    that are left where counters keep nothing apart; `adding` is what the lines ADDING tell, where
-    the verdict is another one then.
+    that are left where counters keep nothing apart, and `behind_links` those where links do not
+    either; `adding` is what the lines ADDING tell, where the verdict is another one then.
     """
 
     first: OfEntry
@@ -54,6 +67,7 @@ class OfPair(TypedDict):
     verdict: str
     reasons: List[OfReason]
     behind: List[str]
+    behind_links: List[str]
     adding: List[str]
 
 
@@ -67,6 +81,7 @@ def of_pair(exchange: Exchange, i: int, j: int) -> OfPair:
         "verdict": verdict_of(reasons),
         "reasons": [of_reason(pair, reason) for reason in reasons],
         "behind": exchange.counters.behind(i, j),
+        "behind_links": exchange.links.behind(i, j),
         "adding": additions.adding.get((i, j), []),
     }
 
@@ -95,7 +110,12 @@ def of_reason(pair: Pair, reason: Reason) -> OfReason:
         "later": of_statements(later),
         "helps": pair.cure(reason),
         "counter": pair.exchange.counters.is_counter(pair.i, pair.j, reason),
+        "links": of_links(pair.exchange.links.of(pair.i, pair.j, reason)),
     }
+
+
+def of_links(links: Sequence[Link]) -> List[OfLink]:
+    return [{"line": link.line, "name": link.name, "text": link.written} for link in links]
 
 
 def of_statements(statements: Sequence[Told]) -> List[OfStatement]:
