@@ -1,7 +1,7 @@
 """The answers of the programs that are altered, each with the check that must tell it."""
-from gate.planted import calls, other_answers
+from gate.planted import calls, costly, other_answers
 from gate.planted.calls import Answer
-from gate.planted.planted import Altered
+from gate.planted.planted import Altered, Cost
 from gate.planted.rows import ALL_RUNS, LISTED, OTHER_WORKERS, TOO_EARLY, plex
 from gate.planted.special import (
     FAR_CALLS,
@@ -592,20 +592,21 @@ FIELDS, CHOICES = "fields that many entries read", "choices in a GOTO loop"
 SENDS = "signals that a job sends itself"
 
 
-def cost(name: str, command: str, told: str, alter: calls.Alter, product: str) -> Altered:
+def cost(name: str, command: str, told: str, made: Cost, product: str) -> Altered:
     """A cost that must be told of a product."""
     words = "-k", " and ".join(["test_product", *product.split(" ")])
-    return plex(name, command, told, "large_texts", alter, *words)._replace(passes=True)
+    row = plex(name, command, told, "large_texts", lambda answer, _: answer, *words)
+    return row._replace(cost=made)
 
 
 OF_COSTS = [
-    cost("analyse_3_times", "analyse", "3 times the time", calls.slower(3), "analyse"),
-    cost("certify_3_times", "certify", "3 times the time", calls.slower(3), CHOICES),
-    cost("run_3_times", "run", "3 times the time", calls.slower(3), SENDS),
-    cost("single_3_times", "single", "3 times the time", calls.slower(3), SENDS),
-    cost("asleep", "run", "each run is asleep for a second", calls.asleep(1), CHOICES),
-    cost("analyse_memory", "analyse", "4 times the memory", calls.larger(4), FIELDS),
-    cost("run_memory", "run", "4 times the memory", calls.larger(4), SENDS),
+    cost("analyse_3_times", "analyse", "3 times the time", Cost(costly.SLOWER, 3), "analyse"),
+    cost("certify_3_times", "certify", "3 times the time", Cost(costly.SLOWER, 3), CHOICES),
+    cost("run_3_times", "run", "3 times the time", Cost(costly.SLOWER, 3), SENDS),
+    cost("single_3_times", "single", "3 times the time", Cost(costly.SLOWER, 3), SENDS),
+    cost("asleep", "run", "each run is asleep for a second", Cost(costly.ASLEEP, 1), CHOICES),
+    cost("analyse_memory", "analyse", "4 times the memory", Cost(costly.LARGER, 4), FIELDS),
+    cost("run_memory", "run", "4 times the memory", Cost(costly.LARGER, 4), SENDS),
 ]
 
 

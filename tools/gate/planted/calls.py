@@ -3,7 +3,6 @@ import os
 import re
 import subprocess
 import tempfile
-import time
 from typing import Callable, List, NamedTuple, Sequence
 
 Line = bytes
@@ -23,7 +22,6 @@ class Call:
 
     def __init__(self, program: str, words: Sequence[str]) -> None:
         self.program, self.words = program, list(words)
-        self.memory = 0
 
     def answer(self) -> Answer:
         """Runs the program. What it writes is taken by files, so that a limit or a full device of
@@ -31,9 +29,7 @@ class Call:
         """
         with tempfile.TemporaryFile() as wrote, tempfile.TemporaryFile() as complaint:
             process = subprocess.Popen([self.program, *self.words], stdout=wrote, stderr=complaint)
-            _, status, used = os.wait4(process.pid, 0)
-            process.returncode = os.waitstatus_to_exitcode(status)
-            self.memory = used.ru_maxrss * 1024
+            process.wait(LONGEST)
             wrote.seek(0)
             complaint.seek(0)
             return Answer(process.returncode, wrote.read(), complaint.read())
@@ -43,14 +39,8 @@ class Call:
         here.
         """
         words = [self.program, *self.words]
-        _, status, used = os.wait4(os.posix_spawn(self.program, words, os.environ), 0)
-        self.memory = used.ru_maxrss * 1024
+        _, status = os.waitpid(os.posix_spawn(self.program, words, os.environ), 0)
         return Answer(os.waitstatus_to_exitcode(status), b"", b"")
-
-    def again(self) -> None:
-        """Runs the program once more, for nobody."""
-        nobody, words = subprocess.DEVNULL, [self.program, *self.words]
-        subprocess.run(words, stdout=nobody, stderr=nobody, timeout=LONGEST, check=False)
 
     def word_behind(self, option: str, other: str) -> str:
         """The word behind an option, or another one where that is not there."""
@@ -152,36 +142,7 @@ def has_words(*wanted: str) -> Callable[[Answer, Call], bool]:
     return lambda _, call: set(wanted) <= set(call.words)
 
 
-# costs
-
-
-def slower(times: int) -> Alter:
-    """The work is done so many times."""
-
-    def alter(answer: Answer, call: Call) -> Answer:
-        for _ in range(times - 1):
-            call.again()
-        return answer
-
-    return alter
-
-
-def asleep(seconds: float) -> Alter:
-    def alter(answer: Answer, _: Call) -> Answer:
-        time.sleep(seconds)
-        return answer
-
-    return alter
-
-
-def larger(times: int) -> Alter:
-    """So many times the memory is taken."""
-
-    def alter(answer: Answer, call: Call) -> Answer:
-        taken = bytearray(b"x") * (times * call.memory)
-        return answer if taken else answer
-
-    return alter
+# how it is given
 
 
 def give(answer: Answer, call: Call, alter: Alter) -> None:

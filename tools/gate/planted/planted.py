@@ -1,15 +1,22 @@
 """What a planted fault is: a row of `answers.ALTERED`, of an altered answer of a program, or of
 `edits.EDITS`, of an altered file of the tools.
 """
-from typing import NamedTuple, Tuple, Union
+from typing import NamedTuple, Optional, Tuple, Union
 
 from gate.planted.calls import Alter
+
+
+class Cost(NamedTuple):
+    """What a call costs more, by the words of costly.py."""
+
+    what: str
+    number: int
 
 
 class Altered(NamedTuple):
     """An altered answer of a program. `commands` has the first words of the calls that are altered,
     and none where all are. `check` must tell it, run with the words `words` behind its own. A row
-    that `passes` alters what a call costs, and not what it writes.
+    with a `cost` alters what a call costs, and not what it writes.
     """
 
     name: str
@@ -19,7 +26,7 @@ class Altered(NamedTuple):
     check: str
     alter: Alter
     words: Tuple[str, ...] = ()
-    passes: bool = False
+    cost: Optional[Cost] = None
 
     @property
     def of(self) -> str:
