@@ -2,9 +2,9 @@
 
 Draws a sequence chart of the run of the exchange text E and the signal file S: a line for each
 block, an arrow for each signal, with faults, releases and restarts. It writes text for a terminal,
-or a picture. Without a choice it draws the first 100 jobs.
+or a picture. Without a selection it draws the first 100 jobs.
 
---forlopp, --block and --signal may stand several times: a job fits by any one of each kind.
+--forlopp, --block and --signal can be repeated: a job is selected if it matches one of each kind.
 """
 import argparse
 import os

@@ -1,15 +1,16 @@
 """plex-check [OPTION ...] E [S [T [Q]]] | plex-check [OPTION ...] --change E E2 |
 plex-check --explain WORD
 
-Tells all that is wrong in an exchange text E, and what is odd in it; also in a signal file S, in a
-table of periodic signals T and in a filter Q for it. A third file whose first line begins with SHOW
-is a filter. With --change it tells what a change of E to E2 keeps, drops, narrows and begins anew,
-and why it is refused. On a terminal each fault comes with the line of the text, the places that
-matter and the cure; else each one is a line of the form FILE:LINE:COLUMN: WORD: sentence.
+Reports all faults of an exchange text E, and warns of suspicious code; also in a signal file S, in
+a table of periodic signals T and in a filter Q for it. A third file whose first line begins with
+SHOW is a filter. With --change it reports what a change from E to E2 keeps, drops, narrows and
+initializes, and why it would be rejected. On a terminal each fault is shown in its source line,
+with related places and the fix; else each one is a line of the form FILE:LINE:COLUMN: WORD:
+sentence.
 
-The status is 0 where nothing is wrong, 1 where there are warnings alone and --werror asks for it,
-2 with faults, and 3 where a file cannot be read or the words are wrong. The words of faults are
-those of plex, and the first fault is the one that plex tells.
+The status is 0 without faults, 1 if there are only warnings and --werror is given, 2 with faults,
+and 3 if a file cannot be read or the words are wrong. The words of faults are those of plex, and
+the first fault is the one that plex reports.
 """
 import argparse
 import gc

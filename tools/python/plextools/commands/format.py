@@ -1,12 +1,11 @@
 """plex-format [--check] [--diff] [FILE ...]
 
-Gives each exchange text FILE its one layout. A file that has another one is rewritten; its words
-and its comments stay the same. Without a FILE, or for -, the standard input is read and the
-standard output is written. A text with faults of its words or its grammar stays as it is, and they
-are told.
+Formats each exchange text FILE in the standard layout. A file that has another one is rewritten;
+its words and comments do not change. Without a FILE, or for -, it formats standard input to
+standard output. A text with invalid words or syntax errors is not changed, and these are reported.
 
-The status is 0 where all is well, 1 where --check or --diff finds another layout, 2 where a text or
-the words are wrong or a file cannot be read or written, and 130 where it was interrupted.
+The status is 0 on success, 1 if --check or --diff finds another layout, 2 if a text or the words
+are wrong or a file cannot be read or written, and 130 if it was interrupted.
 """
 import argparse
 import gc

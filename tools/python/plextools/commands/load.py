@@ -1,19 +1,19 @@
 """plex-load [--json] [--precision | --diff] [OPTION ..] E S [E2 [S2]] [--workers N ..]
 
-Tells what N workers would bring for the load of the exchange text E and the signal file S, and what
-is in the way. It runs the load statement by statement, and plays its jobs as plex hands them to
-workers, with time in statements. Without --workers it does so for 1, 2, 4, 8, 16 and 64, and tells
-what jobs waited for with 4; else for each N from 1 to 64 that is given, and what they waited for
-with the last. --jobs N ends the run after N jobs, and the first N of --skip N do not count. --dense
-takes each line to be there in time. --json writes all figures for a program. --trace-json writes
-the jobs of the workers of the last N, 4 without --workers, to the file F, in the trace event format
-of Chrome, which Perfetto and speedscope open.
---precision tells which pairs of jobs that stood beside one another commute, how many of these the
-verdicts allow, and why they do not allow the others. --diff sets the figures beside those of E2
-with S2, or with S where there is no S2.
---cost-job N, --cost-send N and --cost-sync N say what handing out a job, a signal and a
-synchronised access cost on another machine: in statements, or in ns where --statement NS says how
-many ns a statement takes. --machines F reads several machines from the file F.
+Reports the speed-up of N workers for the load of the exchange text E and the signal file S, and
+what prevents more. It executes the load statement by statement, and simulates how plex hands its
+jobs to workers, with time in statements. Without --workers it does so for 1, 2, 4, 8, 16 and 64,
+and reports what jobs waited for with 4; else for each given N from 1 to 64, and what they waited
+for with the last. --jobs N ends the run after N jobs, and --skip N leaves the first N jobs out of
+the figures. --dense ignores the counts of the signal file. --json writes all figures for programs.
+--trace-json writes the jobs of the workers of the last N, 4 without --workers, to the file F, in
+the trace event format of Chrome, which Perfetto and speedscope open.
+--precision reports which pairs of neighbouring jobs commute, how many of these the verdicts allow,
+and why they do not allow the others. --diff compares the figures with those of E2 with S2, or with
+S if there is no S2.
+--cost-job N, --cost-send N and --cost-sync N are the costs of handing over a job, of a signal and
+of a synchronised access on another machine: in statements, or in ns if --statement NS gives the ns
+of a statement. --machines F reads several machines from the file F.
 """
 import argparse
 import gc

@@ -1,9 +1,9 @@
 """plex-page E [S] -o PAGE [--workers N] [--jobs N]
 
-Writes one page about the exchange text E, which any browser shows: the text with the entries that
-reach each line, the table of pairs, and what plex-why says of each. With the signal file S it has
-the figures of plex-load too, and a time line of the run with N workers, 4 where none are said;
---jobs ends the run after N jobs. The page asks for nothing else, and can be read without scripts.
+Writes a web page about the exchange text E: the text with the entries that reach each line, the
+table of pairs, and the explanations of plex-why. With the signal file S it also has the figures of
+plex-load, and a time line of the run with N workers, 4 by default; --jobs ends the run after N
+jobs. The page loads nothing else, and can be read without scripts.
 """
 import os
 

@@ -1,12 +1,11 @@
 """plex-step [OPTION ...] E S [T]
 
-Steps through the run of the exchange text E and the signal file S, forward and backward, as a
-debugger does: by statements, signals and jobs, to a line, or to where a name is stored into. With a
-table of periodic signals T the run is that of both, merged. Commands are read from the standard
-input; help tells of them.
+A debugger for the run of the exchange text E and the signal file S. It steps forward and backward:
+by statements, signals and jobs, to a line, or to a store to a name. With a table of periodic
+signals T the run is that of both, merged. Commands are read from standard input; help lists them.
 
-With -x or -e the session ends behind the last of these commands, and what it writes depends on the
-files alone. A wrong command ends it there, with the status 1.
+With -x or -e the session ends after the last of these commands, and the output depends only on the
+files. An invalid command ends it there, with the status 1.
 """
 import argparse
 import contextlib

@@ -1,12 +1,12 @@
 """plex-test [OPTION ...] FOLDER ...
 
-Runs the cases in each FOLDER and below it, several at once, and compares what the programs write
-with what the files of each case say. A case is a folder with the file `words` or `merge`, or with
-exchange.plex and signals.txt; its report is report.txt. A failed case is told in a line, with a
-unified diff behind it; the last line has the counts.
+Runs the cases in each FOLDER and below it, several in parallel, and compares the output of the
+programs with the files of each case. A case is a folder with the file `words` or `merge`, or with
+exchange.plex and signals.txt; its expected report is report.txt. A failed case is reported in a
+line, followed by a unified diff; the last line has the counts.
 
-The status is 0 where all cases passed, 1 where some failed, 2 where the words are wrong or no case
-was found, and 130 where it was interrupted.
+The status is 0 if all cases passed, 1 if some failed, 2 if the words are wrong or no case was
+found, and 130 if it was interrupted.
 """
 import argparse
 import os

@@ -1,12 +1,12 @@
 """plex-why [--all] [--json] E [I J | SIGNAL BLOCK SIGNAL BLOCK] | --diff [--json] E E2
 
-Tells why jobs of two entries of the exchange text E are kept apart, with the statements that make
-it so: for the entries I and J, by their numbers in the analysis or by the names of signal and
-block, or else for all pairs that never run together. The first entry is that of the job that comes
-first. --all lists all statements, and not the first few of each kind. --json writes a list of
-objects for a program, one a line and a pair, with all statements. plex-conflicts has to be there.
---diff tells what has become of the pairs of E in the exchange text E2: which are free now, and
-which conflicts are gone, still there or new.
+Explains why jobs of two entries of the exchange text E conflict, with the statements that cause it:
+for the entries I and J, given by their numbers in the analysis or by the names of signal and block,
+or else for all pairs that never run in parallel. The first entry is that of the job that comes
+first. --all lists all statements, not only the first few of each kind. --json writes a list of
+objects for programs, one pair per line, with all statements. It needs plex-conflicts. --diff
+compares the pairs of E with those of the exchange text E2: which can now run in parallel, and which
+conflicts are gone, still there or new.
 """
 from typing import Iterable, Iterator, List, Optional, Sequence
 
