@@ -257,7 +257,7 @@ def test_no_habit_in_right_texts(path: pathlib.Path) -> None:
 
 
 def test_how_it_is_said_here(plex: pathlib.Path, tmp_path: pathlib.Path) -> None:
-    """The forms of the table in docs/GUIDE.md, part 6, that are no cure of a case are right."""
+    """The forms of the table in docs/GUIDE.md, chapter 6, that are no cure of a case are right."""
     text = """SIGNAL TICK SINGLE BUFFERED B DATA 2;
 BLOCK K; DECLARE; VARIABLE S WIDTH 1; VARIABLE B WIDTH 8 INIT 5; TEMPORARY P; TEMPORARY T;
 FILE F SIZE 8; FIELD A WIDTH 16; SURVEY; RECEIVE TICK; PROGRAM; ENTER TICK WITH P, T;

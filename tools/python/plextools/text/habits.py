@@ -369,7 +369,8 @@ FORMS = (
     form(
         "DELAY",
         r"\bDELAY\s+(?P<name>[A-Z0-9]+)[^;]{0,2000};",
-        "there is no DELAY: a table of periodic signals sends a signal later (GUIDE.md, part 13)",
+        "there is no DELAY: a table of periodic signals sends a signal later"
+        " (GUIDE.md, chapter 13)",
         delay,
         False,
     ),
