@@ -40,7 +40,7 @@ SECONDS, BYTES, TRIES = 2.0, 20_000_000, 3
 # So many entries that use so many variables, the bytes of their page, and how many reasons of a
 # pair are drawn at once.
 COMMON, COMMON_BYTES, MANY, AT_ONCE = (128, 100), 1_000_000, (2, 150), 100
-LEAST, TESTS, LEAST_WIDE = 160, 10, 8  # looks, the tests that have them, and those of a wide page
+LEAST, TESTS, LEAST_WIDE = 161, 11, 8  # looks, the tests that have them, and those of a wide page
 LONGEST = 300  # seconds of one call
 STRANGE_NAME = "a <b> & \"c' .plex"
 STRANGE = b"""! </script><script>document.title = 'taken'</script> <img src=x onerror="alert(1)"> \xff\xfe & &amp;
@@ -74,6 +74,10 @@ IN_TEXT = """(() => { const box = document.getElementById("lines").getBoundingCl
   return line.top >= box.top && line.bottom <= box.bottom; })()"""
 UNCUT = (
     "Array.from(document.querySelectorAll('.plain')).every((e) => e.scrollWidth <= e.clientWidth)"
+)
+CUT_HEADS = (
+    "Array.from(document.querySelectorAll('#table .later span'))"
+    ".filter((e) => e.scrollHeight > e.clientHeight).map((e) => e.textContent)"
 )
 FLOW = (
     "Array.from(document.querySelectorAll('.flow a[data-row]')).map("
@@ -257,6 +261,13 @@ class Look:
         self.need(self.window.value(IN_TEXT), f"{size}: the text does not go to the statements")
         if size[0] >= 1400:
             self.need(self.window.value(UNCUT), f"{size}: a table is cut")
+
+    def columns(self) -> None:
+        """The names above the columns of the table are whole."""
+        exchange = SWITCH / "exchange.plex"
+        self.window.open(self.page(exchange, None, "columns.html"))
+        cut = self.window.value(CUT_HEADS)
+        self.need(not cut, f"names of columns are cut: {cut}")
 
     def call_flow(self) -> None:
         """The call flow of a forlopp has the arrows of plex-chart, and answers are dashed."""
@@ -478,6 +489,14 @@ def address(look: Look) -> str:
 def test_at_a_size(look: Look, address: str, size: Size) -> None:
     """A window of a size."""
     look.at_a_size(address, size)
+    look.done()
+
+
+@pytest.mark.counted(TESTS)
+@BROWSER
+def test_columns(look: Look) -> None:
+    """The table of a whole exchange."""
+    look.columns()
     look.done()
 
 

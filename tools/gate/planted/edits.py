@@ -466,6 +466,16 @@ OF_PAGE += [
         ("-k", "call_flow"),
     ),
     Edit(
+        "columns_cut",
+        "plex-page",
+        "names of columns are cut",
+        "look_at_page",
+        "tools/python/plextools/show/page.css",
+        "max-height: 16rem;",
+        "max-height: 9rem;",
+        ("-k", "columns"),
+    ),
+    Edit(
         "calls_undrawn",
         "plex-page",
         "the call flow draws no direct and no combined signal",

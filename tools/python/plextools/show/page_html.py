@@ -208,7 +208,7 @@ class Page:
             ),
             columns=len(entries),
             heads="".join(
-                f'<th class="later" scope="col"><span>{escaped(one.name)} {one.number}</span></th>'
+                f'<th class="later" scope="col"><span>{one.number} {escaped(one.name)}</span></th>'
                 for one in entries
             ),
         )
