@@ -66,6 +66,13 @@ OF_CHECK = [
         "    for number, frame in enumerate(frames[:0], 1):\n",
     ),
     slipped(
+        "label_stays",
+        "a label in a statement to which nothing goes is not left out",
+        "hints.py",
+        " or no_label(reader, start)",
+        "",
+    ),
+    slipped(
         "letters_apart",
         "each word in small letters is told by itself",
         "advice.py",

@@ -33,6 +33,9 @@ BEGIN = {
     "surveyed": ("RECEIVE", "SEND", "PROGRAM"),
 }
 NAME_ALONE = re.compile(r"[A-Z][A-Z0-9]*[ \t\r\n]*;")
+LABEL = re.compile(r"([A-Z][A-Z0-9]*)[ \t]*\)")
+LINE_OF_LABEL = re.compile(rf"[ \t]*{LABEL.pattern}[ \t]*\r?\n")
+MOST_SEARCHED = 2**20  # bytes of a text in which a GOTO is looked for
 LATE = {
     "REFERENCE": "REFERENCE stands before WITH, in a SEND and a TRANSFER alone",
     "INIT": "INIT stands before CLEAR",
@@ -104,7 +107,8 @@ def why_not(reader: "Reader", place: int, word: str, misfit: Misfit) -> Optional
         return of_phrase(reader, word, node, misfit.shift, misfit.stop)
     if node is not None and node.kind == "label" and frame is not None and frame.node is not None:
         told = f"a label stands in no other statement, and {told_frame(frame, lines)} is open"
-        return Hint(told, frame.place, before_label(reader, node.first.place + misfit.shift))
+        start = node.first.place + misfit.shift
+        return Hint(told, frame.place, before_label(reader, start) or no_label(reader, start))
     if len(reader.frames) > 1 and reader.section == "running":
         return of_list(reader, word, lines, place)
     if word in OPENERS and reader.section == "running":
@@ -190,6 +194,17 @@ def before_label(reader: "Reader", place: int) -> Tuple[Edit, ...]:
     if closes_later(reader.source.clean, place):
         return ()
     return ends_of(reader, reader.frames[:0:-1], place)
+
+
+def no_label(reader: "Reader", place: int) -> Tuple[Edit, ...]:
+    """A label to which nothing goes is left out, with its line where it stands alone there."""
+    clean = reader.source.clean
+    label = LABEL.match(clean, place)
+    if not label or len(clean) > MOST_SEARCHED or re.search(rf"\bGOTO\s+{label[1]}\b", clean):
+        return ()
+    line = LINE_OF_LABEL.match(reader.source.text, reader.source.lines.start(place))
+    span = (line or label).span()
+    return (Edit(*span, ""),)
 
 
 KEYWORD_SAID = "no statement begins with {}"
