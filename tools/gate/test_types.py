@@ -9,6 +9,8 @@ import subprocess
 
 import pytest
 
+from gate import harness
+
 ROOT = pathlib.Path(__file__).resolve().parent.parent.parent
 PYTHON = "/usr/bin/python3"
 TYPED = (
@@ -20,7 +22,7 @@ TYPED = (
 )
 APART = {"__pycache__", "cases", "completions"}  # what is no Python
 TOOLS = {"mypy": ("--strict",), "black": ("--check", "--quiet"), "flake8": ()}
-LONGEST = 600
+LONGEST = 3 * harness.WHILE  # mypy reads all files anew
 
 
 def files() -> list[str]:
