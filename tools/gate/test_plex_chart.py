@@ -457,6 +457,15 @@ def lines_in(*words: Union[str, pathlib.Path]) -> List[str]:
     return got.wrote.splitlines()
 
 
+def test_values_over_idle_lanes() -> None:
+    """In narrow lanes a value stands over those without a job, and no further."""
+    names = EXAMPLES / "switch" / "exchange.plex", EXAMPLES / "switch/wrong_call/signals.txt"
+    lines = lines_in(*names, "--around", "FAULT", "--context", "2", "--values", "--ascii")
+    assert any("# PATIENCE(10): 10 -> 10 " in line for line in lines)
+    assert any(line.endswith("# CALLED(0): 255 -> 20") for line in lines)
+    assert any("# PEER(20): 255 -> 10      :" in line for line in lines)
+
+
 def test_all_kinds_of_signals_in_text() -> None:
     """Buffered, direct and combined signals, answers and what waits have marks of their own."""
     lines = lines_in(*files(ASK), "--ascii", "--values", "--lines", "--jobs", "2")

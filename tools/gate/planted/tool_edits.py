@@ -416,6 +416,16 @@ OF_TEST = [
     ),
 ]
 
+OF_NOTES = [
+    drawn(
+        "chart_values_narrow",
+        "`--values` is cut at the next lane",
+        f"{SHOW}/chart_text.py",
+        "        if len(text) > room:\n",
+        "        if len(text) > room and not row:\n",
+        "idle_lanes",
+    ),
+]
 OF_OUTPUTS = [
     Edit(
         "unwritten_ends_well",
@@ -520,4 +530,13 @@ OF_VSIX = [
         "",
     ),
 ]
-EDITS: List[Edit] = [*OF_CHECK, *OF_WHY, *OF_CHART, *OF_TEST, *OF_OUTPUTS, *OF_LSP, *OF_VSIX]
+EDITS: List[Edit] = [
+    *OF_CHECK,
+    *OF_WHY,
+    *OF_CHART,
+    *OF_TEST,
+    *OF_NOTES,
+    *OF_OUTPUTS,
+    *OF_LSP,
+    *OF_VSIX,
+]

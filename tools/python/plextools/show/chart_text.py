@@ -211,16 +211,26 @@ class Drawing:
         self.beside(row, row.lane, mark + row.text, colour, "")
 
     def beside(self, row: Row, lane: int, text: str, colour: str, stub: str) -> List[Line]:
-        """Lines with a text to the right of a lane, behind a stub."""
+        """Lines with a text to the right of a lane, behind a stub. Where it does not fit before the
+        next lane, it stands over the lanes up to the next one with a job.
+        """
         place = self.lanes[lane] + 2 + len(stub)
+        room = self.lanes[lane] + self.step - 1 - place
+        if len(text) > room:
+            room = self.next_job(row, lane) - 1 - place
         lines = []
-        for at, part in enumerate(wrapped(text, self.lanes[lane] + self.step - 1 - place)):
+        for at, part in enumerate(wrapped(text, room)):
             line = self.line(row)
             if at == 0 and stub:
                 line.put(self.lanes[lane] + 1, stub, colour_of(row.forlopp))
             line.put(place, part, colour)
             lines.append(line)
         return lines
+
+    def next_job(self, row: Row, lane: int) -> int:
+        """The place of the next lane to the right where a job is, or the end of the chart."""
+        places = enumerate(self.lanes)
+        return next((place for at, place in places if at > lane and at in row.lives), self.right)
 
     def arrow(self, row: Arrow) -> None:
         at = len(self.lines)
