@@ -31,7 +31,7 @@ NUMBERS = {
 CHOSEN = ("USUAL_WORKERS", "INSTRUCTIONS_OF_STATEMENT", "LONG_JOB")
 LENGTH = "LEAST.saturating_add(ALONE / u64::from(workers).max(1))"
 TOLD = [
-    ("docs/guide/17-which-change-pays.md", r"where it has some ([\d,]+) statements or more"),
+    ("docs/guide/17-which-change-pays.md", r"only if it has some ([\d,]+) statements or more"),
     ("docs/plex-load.1", r"only where it has some ([\d,]+) statements\nor more with four workers"),
     ("docs/PERFORMANCE.md", r"the former are some ([\d,]+) statements"),
     ("examples/guide/charging/load.txt", r"hands jobs to other workers from some (\d+) on"),
