@@ -18,6 +18,7 @@ import time
 from typing import Any, Optional
 
 NAMES = ("chromium", "chromium-browser", "google-chrome", "chrome")
+DRAWN = "new Promise((done) => requestAnimationFrame(() => requestAnimationFrame(done)))"
 LONGEST, PATIENCE = 300, 240  # seconds for an answer, and for a value that a page comes to
 OPTIONS = (
     "--headless=new",
@@ -177,12 +178,16 @@ class Browser:
         )
 
     def click(self, selector: str) -> None:
-        """Clicks the middle of the first element that a selector names, where it then stands on the
-        screen.
+        """Clicks the middle of the first element that a selector names, where it stands on the
+        screen once that is drawn.
         """
+        self.value(
+            f"document.querySelector({json.dumps(selector)})"
+            ".scrollIntoView({block: 'center', inline: 'center'})"
+        )
+        self.value(DRAWN)
         place = self.value(
             f"(() => {{ const e = document.querySelector({json.dumps(selector)});"
-            " e.scrollIntoView({block: 'center', inline: 'center'});"
             " const b = e.getBoundingClientRect();"
             " return [b.x + b.width / 2, b.y + b.height / 2]; })()"
         )

@@ -138,13 +138,17 @@ def test_changes_of_pairs(folder: pathlib.Path) -> None:
     got = {(row["first"], row["later"]): row for row in changes["pairs"]}
     assert {pair: row["change"] for pair, row in got.items()} == {
         ("ADD K", "ADD K"): "FREE",
+        ("ADD K", "SUB K"): "FREE",
+        ("SUB K", "ADD K"): "FREE",
+        ("SUB K", "WORK K"): "NEVER",
+        ("WORK K", "SUB K"): "NEVER",
         ("WORK K", "WORK K"): "NEVER",
     }
     assert got["ADD K", "ADD K"]["gone"] == got["WORK K", "WORK K"]["new"] == ["VARIABLE K.N"]
     # An ADD behind a WORK, which may fault, has a test in both.
-    assert changes["counts"] == {"FREE": 1, "NEVER": 1, "STILL": 0, "TESTS": 1}
+    assert changes["counts"] == {"FREE": 3, "NEVER": 3, "STILL": 1, "TESTS": 1}
     back = told(folder, "plex-why", "--diff", "E", "E")
-    assert back["pairs"] == [] and back["counts"]["STILL"] == 1
+    assert back["pairs"] == [] and back["counts"]["STILL"] == 4
 
 
 def test_changes_of_a_load(folder: pathlib.Path) -> None:
