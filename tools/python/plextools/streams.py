@@ -6,6 +6,7 @@ nowhere. In the place of a stream that is closed as the tool starts something st
 nothing is read and to which nothing can be written, so that no file that the tool opens comes to
 stand there.
 """
+import contextlib
 import io
 import os
 import sys
@@ -24,7 +25,12 @@ class Unwritten(Exception):
         self.is_unread = isinstance(wrong, BrokenPipeError)
 
 
-class Output(io.FileIO):
+# The writers below only say what becomes of an error. Writing itself is not done by Python's code,
+# in which an interrupt could come between a write and the note that it was made, so that the bytes
+# would be written twice.
+
+
+class Output(io.BufferedWriter):
     """A stream that tells what keeps it from being written."""
 
     def write(self, data: Any) -> int:
@@ -33,8 +39,14 @@ class Output(io.FileIO):
         except OSError as wrong:
             raise Unwritten(wrong) from wrong
 
+    def flush(self) -> None:
+        try:
+            super().flush()
+        except OSError as wrong:
+            raise Unwritten(wrong) from wrong
 
-class Complaints(io.FileIO):
+
+class Complaints(io.BufferedWriter):
     """A stream whose text is lost where it cannot be written."""
 
     def write(self, data: Any) -> int:
@@ -42,6 +54,10 @@ class Complaints(io.FileIO):
             return super().write(data)
         except OSError:
             return memoryview(data).nbytes
+
+    def flush(self) -> None:
+        with contextlib.suppress(OSError):
+            super().flush()
 
 
 def take() -> None:
@@ -52,7 +68,8 @@ def take() -> None:
     for number, stream in ((OUTPUT, sys.stdout), (COMPLAINTS, sys.stderr)):
         if stream is None:
             stand_in(number, FULL)
-    output, complaints = Output(OUTPUT, "wb", False), Complaints(COMPLAINTS, "wb", False)
+    output = Output(io.FileIO(OUTPUT, "wb", False))
+    complaints = Complaints(io.FileIO(COMPLAINTS, "wb", False))
     sys.stdout = text_of(output, sys.stdout, output.isatty())
     sys.stderr = text_of(complaints, sys.stderr, True)
     TAKEN.extend((sys.stdout, sys.stderr))
@@ -66,10 +83,10 @@ def stand_in(number: int, name: str, mode: int = os.O_RDONLY) -> None:
         os.close(opened)
 
 
-def text_of(stream: io.FileIO, before: Optional[TextIO], by_lines: bool) -> TextIO:
+def text_of(stream: io.BufferedWriter, before: Optional[TextIO], by_lines: bool) -> TextIO:
     """A stream of text with the encoding of the one that stood there before."""
     return io.TextIOWrapper(
-        io.BufferedWriter(stream),
+        stream,
         encoding=before.encoding if before else "utf-8",
         errors="backslashreplace",
         line_buffering=by_lines,
