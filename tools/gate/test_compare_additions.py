@@ -20,7 +20,7 @@ from typing import Iterator, Sequence
 import pytest
 
 from gate import harness
-from gate.addition_rows import BY_NAME, Row
+from gate.addition_rows import BLOCK, BY_NAME, HEAD, Row
 from gate.checking import Tally, check, check_enough
 from gate.makers import made_additions, made_exchange
 from gate.oracle import additions
@@ -178,6 +178,29 @@ def without_brackets(expr: Expression) -> Expression:
     while len(expr) == len(expr[0]) == 1 and expr[0][0][1][0] == "bracket":
         expr = expr[0][0][1][1]
     return expr
+
+
+FORMS = {
+    "V = V + D;": True,
+    "V = D + V - 1;": True,
+    "V = (V - D);": True,
+    "V = D - V;": False,
+    "V = V + V;": False,
+    "V = V * 2;": False,
+    "S(P) = D + S(P);": True,
+    "S(P) = D - S(P);": False,
+    "S(P) = S(D) + 1;": False,
+}
+
+
+@pytest.mark.parametrize("statement", FORMS)
+def test_forms(statement: str) -> None:
+    """Whether a statement adds is as it was worked out by hand."""
+    declared = "VARIABLE V WIDTH 32; FILE F SIZE 8; FIELD S WIDTH 32;"
+    block = BLOCK.format(declared=declared, sent="", first=statement, later="")
+    text = Text("E", (HEAD + block).encode())
+    stored = [node for node in text.points if node.kind in ("set", "set_field")]
+    assert [is_addition(node) for node in stored] == [FORMS[statement]]
 
 
 @pytest.mark.by_chance(STATEMENTS)
