@@ -4,10 +4,11 @@ takes more now.
 case_costs.txt has a line for each run: the seconds of the processor, by the pace of the machine of
 the known figures, the megabytes, and the name; unproved_costs.txt has those of the program that is
 not proved. A run is worse where it takes more than twice its seconds and `BESIDE`, by the pace that
-this machine has then, or more than one and a half times its memory and a little; and where it lasts
-`ASLEEP` longer than twice what its seconds of the processor last on this machine then. One that is
-worse is made again, up to `TRIES` times in all, since others may use the machine beside it: the
-least of all tries counts, beside the least measure of the machine.
+this machine has then, and `FRESH` for each megabyte above `SMALL`, since a system that has to find
+its pages first gives them slowly; or more than one and a half times its memory and a little; and
+where it lasts `ASLEEP` longer than twice what its seconds of the processor last on this machine
+then. One that is worse is made again, up to `TRIES` times in all, since others may use the machine
+beside it: the least of all tries counts, beside the least measure of the machine.
 `pytest-3 test_large_texts.py -k case_costs --write` makes the figures of a program anew.
 """
 import pathlib
@@ -18,6 +19,7 @@ from measure import measured
 
 GATE = pathlib.Path(__file__).resolve().parent
 TIMES, BESIDE = 2.0, 0.03  # of a figure, and seconds
+FRESH, SMALL = 0.004, 40.0  # seconds for a megabyte, and megabytes
 MEMORY, MORE_MEMORY = 1.5, 8.0  # of a figure, and megabytes
 LASTS, ASLEEP = 2.0, 0.5  # how much longer than its seconds a run may last, and seconds
 TRIES, MANY, TURNS, MEGABYTE = 5, 8, 3, 1024 * 1024  # MANY: then nothing is made again
@@ -73,6 +75,7 @@ class Costs:
         if figure is None:
             return "it has no figure, which `-k case_costs --write` makes"
         most = (TIMES * figure.seconds + BESIDE) * min(one.pace.machine for one in tries)
+        most += FRESH * max(0.0, figure.megabytes - SMALL)
         if min(one.came.seconds for one in tries) > most:
             return f"over {most:.2f} s, beside a figure of {figure.seconds:.3f} s"
         megabytes = MEMORY * figure.megabytes + MORE_MEMORY
