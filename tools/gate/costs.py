@@ -8,7 +8,7 @@ this machine has then, and `FRESH` for each megabyte above `SMALL`, since a syst
 its pages first gives them slowly; or more than one and a half times its memory and a little; and
 where it lasts `ASLEEP` longer than twice what its seconds of the processor last on this machine
 then. One that is worse is made again, up to `TRIES` times in all, since others may use the machine
-beside it: the least of all tries counts, beside the least measure of the machine.
+beside it: the least of all tries counts, beside the median of the measures of the machine.
 `pytest-3 test_large_texts.py -k case_costs --write` makes the figures of a program anew.
 """
 import pathlib
@@ -18,7 +18,7 @@ from typing import Callable, Dict, Iterable, NamedTuple, Optional, Sequence
 from measure import measured
 
 GATE = pathlib.Path(__file__).resolve().parent
-TIMES, BESIDE = 2.0, 0.03  # of a figure, and seconds
+TIMES, BESIDE = 2.0, 0.05  # of a figure, and seconds
 FRESH, SMALL = 0.004, 40.0  # seconds for a megabyte, and megabytes
 MEMORY, MORE_MEMORY = 1.5, 8.0  # of a figure, and megabytes
 LASTS, ASLEEP = 2.0, 0.5  # how much longer than its seconds a run may last, and seconds
@@ -74,7 +74,7 @@ class Costs:
         figure = self.figures.get(name)
         if figure is None:
             return "it has no figure, which `-k case_costs --write` makes"
-        most = (TIMES * figure.seconds + BESIDE) * min(one.pace.machine for one in tries)
+        most = (TIMES * figure.seconds + BESIDE) * usual([one.pace.machine for one in tries])
         most += FRESH * max(0.0, figure.megabytes - SMALL)
         if min(one.came.seconds for one in tries) > most:
             return f"over {most:.2f} s, beside a figure of {figure.seconds:.3f} s"
@@ -93,6 +93,11 @@ class Costs:
     def missing(self, names: Iterable[str]) -> Iterable[str]:
         """The runs that have no figure."""
         return sorted(set(names) - set(self.figures or ()))
+
+
+def usual(paces: Sequence[float]) -> float:
+    """The median of paces; of two in the middle, that of the faster machine."""
+    return sorted(paces)[(len(paces) - 1) // 2]
 
 
 def place(is_proved: bool) -> pathlib.Path:

@@ -372,11 +372,11 @@ def broken_by_tool(case: tool_cases.ToolCase, came: Any, wrote: int, pace: float
 
 @pytest.mark.parametrize("case", tool_cases.CASES, ids=[case.name for case in tool_cases.CASES])
 def test_tool(machine: Machine, conflicts: pathlib.Path, case: tool_cases.ToolCase) -> None:
-    """A tool keeps its bounds; one that is over them is run once more, at the pace of then."""
+    """A tool keeps its bounds; one that is over them is run again, at the pace of then."""
     harness.write_files(machine.folder, case.files())
     tool = conflicts if case.words[0] == "plex-conflicts" else TOOLS / "bin" / case.words[0]
     words = [tool, *case.words[1:]]
-    for _ in range(2):
+    for _ in range(costs.TRIES):
         came = measured.measured(words, machine.folder, case.seconds * machine.pace * 2)
         if came.status is not None and came.seconds <= case.seconds * machine.pace:
             break
